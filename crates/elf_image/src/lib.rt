@@ -1,0 +1,2 @@
+//! Images of programs: ELF files.
+#![tactic(auto)]
