@@ -1,0 +1,34 @@
+use Rattle.std.proofs.Common.{◌≡◌, ◌++◌, ◌∷◌, [], arith}
+use Rattle.std.proofs.lemmas.Grind.{common_steps}
+use Rattle.std.specs.Prelude.{vec_len}
+use Rattle.journal_core.specs.declared.rows.WriteRow.{WriteRow}
+use Rattle.journal_core.proofs.DatesLemmas.{in_order_push}
+use Rattle.journal_core.proofs.journal.Journal.push_write.Goals as goal
+
+pub invariant_of-self : goal.invariant_of-self
+invariant_of-self c =
+    let kept = c.self.invariant in
+    let here : c.args.row.step ≡ vec_len c.self.inside.steps = grind (arith, common_steps, c.requires.step) in
+    let items : c.push.new.self.items ≡ c.self.inside.writes.items ++ c.args.row ∷ [] = grind (arith, common_steps) in
+    record {
+      most = kept.most;
+      steps = kept.steps;
+      steps_within = kept.steps_within;
+      reads = kept.reads;
+      reads_within = kept.reads_within;
+      fills = kept.fills;
+      fills_within = kept.fills_within;
+      writes = grind (arith, common_steps);
+      writes_within = grind (arith, common_steps);
+      dones = kept.dones;
+      dones_within = kept.dones_within;
+      devices = kept.devices;
+      devices_within = kept.devices_within;
+      dated = record {
+        reads = kept.dated.reads;
+        fills = kept.dated.fills;
+        writes = rw items (in_order_push (λ (r : WriteRow). r.step) 0 (vec_len c.self.inside.steps) c.self.inside.writes.items c.args.row here (omega arith) kept.dated.writes);
+        dones = kept.dated.dones;
+        devices = kept.dated.devices;
+      };
+    }

@@ -1,0 +1,22 @@
+use super::*;
+
+#[test]
+fn numbers_have_no_sign_and_no_leading_zero(rt: HostRuntime) {
+    assert_eq!(rt; read_number(b"0", 9), Some(0));
+    assert_eq!(rt; read_number(b"1048576", 1_048_576), Some(1_048_576));
+    assert_eq!(rt; read_number(b"00", 9), None);
+    assert_eq!(rt; read_number(b"07", 9), None);
+    assert_eq!(rt; read_number(b"+7", 9), None);
+    assert_eq!(rt; read_number(b"", 9), None);
+}
+
+#[test]
+fn numbers_end_at_the_greatest(rt: HostRuntime) {
+    assert_eq!(rt; read_number(b"1048577", 1_048_576), None);
+    assert_eq!(rt;
+        read_number(b"18446744073709551615", u64::MAX),
+        Some(u64::MAX)
+    );
+    assert_eq!(rt; read_number(b"18446744073709551616", u64::MAX), None);
+    assert_eq!(rt; read_number(b"99999999999999999999999999", u64::MAX), None);
+}

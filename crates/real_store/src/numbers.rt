@@ -1,0 +1,36 @@
+//! Numbers and their bytes.
+
+ghost use Rattle.std.specs.Prelude.{◌≡◌, ◌<◌, ◌≤◌, ◌^◌, ◌+◌, length};
+ghost use Rattle.journal_core.specs.Bytes.{le_value, placed, piece};
+
+/// The number of some bytes, the lowest first.
+pub fn number_of(bytes: &[u8]) -> u64
+    requires { length bytes.now ≤ 8 }
+    ensures value { result ≡ le_value bytes.now }
+    ensures below { result < 256 ^ length bytes.now }
+{
+    match bytes {
+        [] => 0,
+        [first, rest @ ..] => *first as u64 + 256 * number_of(rest),
+    }
+}
+
+/// Places some bytes in storage.
+#[tactic(auto, unfolding(journal_core::specs::Bytes::placed))]
+pub fn place_bytes(ram: &mut [u8], at: usize, bytes: &[u8])
+    requires { at + length bytes.now ≤ length ram.old }
+    ensures { ram.new ≡ placed ram.old at bytes.now }
+{
+    ram[at..at + bytes.len()].copy_from_slice(bytes);
+}
+
+/// The number in storage, of so many bytes, the lowest first.
+#[tactic(auto, unfolding(journal_core::specs::Bytes::piece))]
+pub fn number_at(ram: &[u8], at: usize, size: usize) -> u64
+    requires within { at + size ≤ length ram.now }
+    requires size { size ≤ 8 }
+    ensures value { result ≡ le_value (piece ram.now at size) }
+    ensures below { result < 256 ^ size }
+{
+    number_of(&ram[at..at + size])
+}
