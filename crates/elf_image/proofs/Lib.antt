@@ -1,0 +1,4 @@
+pub mod Begins
+pub mod Fields
+pub mod Images
+pub mod OneImage
