@@ -1,0 +1,3 @@
+pub mod EndText
+pub mod ThreadText
+pub mod Report
