@@ -1,0 +1,6 @@
+pub mod ClockLemmas
+pub mod OpenLemmas
+pub mod StepLemmas
+pub mod HeldLemmas
+pub mod RunLemmas
+pub mod QuietLemmas

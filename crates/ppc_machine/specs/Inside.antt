@@ -1,0 +1,6 @@
+-- The view of a machine.
+use Rattle.ppc_machine.specs.declared.machines.Machine.TheInside.{Inside}
+use Rattle.ppc_machine.specs.Held.{Held}
+
+abbrev pub held_of : Inside → Held
+held_of m = record { entry = m.entry; threads = m.parts.threads; store = m.parts.store; journal = m.parts.journal }
