@@ -1,0 +1,53 @@
+-- What follows of calls whose files are good, and of an outside that never fails.
+use Rattle.std.specs.Prelude.{◌≡◌, ◌≤◌, ℕ, List, length, Option, Some, Ok}
+use Rattle.journal_core.specs.declared.rows.Ended.TheVariants as ends
+use Rattle.elf_image.specs.declared.image.Image.{Image}
+use Rattle.elf_image.specs.IsImage.{IsImage}
+use Rattle.sched_text.specs.Plan.{Plan}
+use Rattle.sched_text.specs.Reading.{plan_of}
+use Rattle.radix_top.specs.declared.command.Command.TheVariants.{Run}
+use Rattle.radix_top.specs.declared.status.Status.{Status}
+use Rattle.radix_top.specs.declared.status.Status.TheVariants as statuses
+use Rattle.radix_top.specs.Words.{Text, word_at, command_of}
+use Rattle.radix_top.specs.Inputs.{most}
+
+-- the words are a run, and its files are told, within the bound and good
+pub record AcceptsRun (told : List ℕ → Option (List ℕ)) (words : List Text) : Type 0 where
+  pub count : ℕ
+  pub is_command : command_of words ≡ Ok (Run count)
+  pub image_bytes : List ℕ
+  pub image_told : told (word_at words 1) ≡ Some image_bytes
+  pub image_fits : length image_bytes ≤ most
+  pub image : Image
+  pub is_image : IsImage image_bytes image
+  pub schedule_bytes : List ℕ
+  pub schedule_told : told (word_at words 2) ≡ Some schedule_bytes
+  pub schedule_fits : length schedule_bytes ≤ most
+  pub plan : Plan
+  pub is_schedule : plan_of schedule_bytes ≡ Ok plan
+
+-- the run made all its steps or the machine stopped, or memory or the outside failed
+abbrev pub EndsWell : Status → Type 0
+EndsWell (statuses.Done ends.AllRun) = Unit {0}
+EndsWell (statuses.Done ends.ScheduleEnd) = ⊥
+EndsWell (statuses.Done (ends.Stopped name value)) = ⊥
+EndsWell (statuses.Done (ends.JournalFull kind count)) = ⊥
+EndsWell (statuses.Stopped name value) = Unit {0}
+EndsWell (statuses.JournalFull kind count) = ⊥
+EndsWell statuses.Memory = Unit {0}
+EndsWell (statuses.ReadFault place) = Unit {0}
+EndsWell statuses.WriteFault = Unit {0}
+EndsWell (statuses.Usage place) = ⊥
+EndsWell (statuses.TooLong place) = ⊥
+EndsWell (statuses.BadImage fault) = ⊥
+EndsWell (statuses.BadSchedule place) = ⊥
+
+-- no file was not read
+abbrev pub NoReadFault : Status → Type 0
+NoReadFault (statuses.ReadFault place) = ⊥
+NoReadFault _ = Unit {0}
+
+-- no text was cut short
+abbrev pub NoWriteFault : Status → Type 0
+NoWriteFault statuses.WriteFault = ⊥
+NoWriteFault _ = Unit {0}

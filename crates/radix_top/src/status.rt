@@ -1,0 +1,75 @@
+//! How a call ends.
+
+ghost use Rattle.std.specs.Prelude.{◌≡◌};
+ghost use Rattle.radix_top.specs.Statuses.{refused_status, ended_status};
+
+use elf_image::ElfFault;
+use journal_core::{Ended, RowKind, StopName};
+
+/// How a call ends.
+#[derive(Clone, Copy, Debug, PartialEq, Eq)]
+pub enum Status {
+    /// The command was done; a run made all its steps, or its schedule has no next turn.
+    Done(Ended),
+    /// The words are no command; the number of the first wrong or missing word, from 0.
+    Usage(usize),
+    /// The outside failed to read the file that the word of this number names.
+    ReadFault(usize),
+    /// The file that the word of this number names is longer than 64 MiB.
+    TooLong(usize),
+    /// The image is none, for this reason.
+    BadImage(ElfFault),
+    /// The schedule breaks at this byte.
+    BadSchedule(usize),
+    /// The outside failed to take what was printed.
+    WriteFault,
+    /// Memory ran out before a machine was opened.
+    Memory,
+    /// The machine stopped, for this reason and with this value.
+    Stopped(StopName, u64),
+    /// This list of the journal, which has so many rows, has no room for one more step.
+    JournalFull(RowKind, u32),
+}
+
+/// Why a call ends before it opens a machine.
+#[derive(Clone, Copy, Debug, PartialEq, Eq)]
+pub enum Refusal {
+    /// The words are no command; the number of the first wrong or missing word, from 0.
+    Usage(usize),
+    /// The outside failed to read the file that the word of this number names.
+    ReadFault(usize),
+    /// The file that the word of this number names is longer than 64 MiB.
+    TooLong(usize),
+    /// The image is none, for this reason.
+    BadImage(ElfFault),
+    /// The schedule breaks at this byte.
+    BadSchedule(usize),
+    /// Memory ran out.
+    Memory,
+}
+
+/// The status of a call that is refused.
+pub fn refused_status(refusal: Refusal) -> Status
+    ensures { result ≡ refused_status refusal }
+{
+    match refusal {
+        Refusal::Usage(place) => Status::Usage(place),
+        Refusal::ReadFault(place) => Status::ReadFault(place),
+        Refusal::TooLong(place) => Status::TooLong(place),
+        Refusal::BadImage(fault) => Status::BadImage(fault),
+        Refusal::BadSchedule(place) => Status::BadSchedule(place),
+        Refusal::Memory => Status::Memory,
+    }
+}
+
+/// The status of a call whose run ended so and was printed.
+pub fn ended_status(ended: Ended) -> Status
+    ensures { result ≡ ended_status ended }
+{
+    match ended {
+        Ended::AllRun => Status::Done(ended),
+        Ended::ScheduleEnd => Status::Done(ended),
+        Ended::Stopped(name, value) => Status::Stopped(name, value),
+        Ended::JournalFull(kind, count) => Status::JournalFull(kind, count),
+    }
+}

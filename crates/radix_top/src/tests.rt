@@ -1,0 +1,7 @@
+//! What a call prints and answers, over files and a sink in memory.
+
+mod commands;
+mod faults;
+mod files;
+mod runs;
+mod support;
