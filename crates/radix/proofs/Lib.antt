@@ -1,0 +1,3 @@
+mod Cut
+mod Gathered
+mod Written

@@ -1,0 +1,6 @@
+pub mod Answering
+pub mod Exits
+pub mod Gathering
+pub mod Informing
+pub mod Outgoing
+pub mod Shelf
