@@ -1,0 +1,3 @@
+mod Branches
+mod Keys
+mod Plain

@@ -1,0 +1,4 @@
+pub mod Decode
+pub mod Find
+pub mod Opcodes
+pub mod Operands
