@@ -1,0 +1,5 @@
+mod Sums
+mod Found
+mod Parts
+mod RoundTrip
+mod Whole
