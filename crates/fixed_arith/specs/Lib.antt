@@ -1,0 +1,6 @@
+pub mod Numbers
+pub mod Outcomes
+pub mod Sums
+pub mod Products
+pub mod Quotients
+pub mod Arith
