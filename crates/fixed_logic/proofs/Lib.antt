@@ -1,0 +1,4 @@
+pub mod BitLemmas
+pub mod ShiftLemmas
+pub mod CountLemmas
+pub mod PartLemmas
