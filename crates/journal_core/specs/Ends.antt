@@ -15,6 +15,7 @@ use Rattle.journal_core.specs.declared.rows.Ended.TheVariants.{AllRun, ScheduleE
 -- the stop that a step ended in, if it is one
 abbrev pub stop_in : StepEnd → Option (StopName × ℕ)
 stop_in step_ends.Ran = None
+stop_in (step_ends.Took cause) = None
 stop_in (step_ends.Stopped name value) = Some (name, value)
 
 abbrev pub stop_at : Option StepRow → Option (StopName × ℕ)

@@ -1,0 +1,82 @@
+-- Which fills stand, and which of them answer.
+use Rattle.std.specs.Prelude.{◌≡◌, ℕ, ◌+◌, ◌/◌, ◌%◌, ◌^◌, ◌<◌, ◌≤◌, List, [], ◌∷◌, take, drop, Option, Some, None, Bool, ◌&&◌, ◌==◌, slice_get, count_by}
+use Rattle.std.specs.List.{AllByRecursion}
+use Rattle.journal_core.specs.declared.rows.KeyKind.{KeyKind}
+use Rattle.journal_core.specs.declared.rows.KeyKind.TheVariants.{Translation, GuestPage, ProcessDir, PartDir}
+use Rattle.journal_core.specs.declared.rows.Key.{Key}
+use Rattle.journal_core.specs.declared.rows.ReadRow.{ReadRow}
+use Rattle.journal_core.specs.declared.rows.FillRow.{FillRow}
+use Rattle.journal_core.specs.Rows.{Rows}
+use Rattle.journal_core.specs.Covers.{IsCurrent}
+
+-- the key of an address that leaves so many bits
+abbrev pub key_of : KeyKind → ℕ → ℕ → ℕ → ℕ → Key
+key_of kind lpid pid left address = record { kind = kind; lpid = lpid; pid = pid; left = left; page = address / 2 ^ left }
+
+-- the numbers of a fill's readings, in the order of the walk
+abbrev pub fill_reads : FillRow → List ℕ
+fill_reads f = take f.count f.reads
+
+-- these numbers name these read rows
+abbrev pub AreRows : List ReadRow → List ℕ → List ReadRow → Type 0
+AreRows reads [] [] = Unit {0}
+AreRows reads [] (r ∷ rs) = ⊥
+AreRows reads (i ∷ is) [] = ⊥
+AreRows reads (i ∷ is) (r ∷ rs) = (slice_get reads i ≡ Some r) × AreRows reads is rs
+
+abbrev pub kind_number : KeyKind → ℕ
+kind_number Translation = 0
+kind_number GuestPage = 1
+kind_number ProcessDir = 2
+kind_number PartDir = 3
+
+-- of one thread, one kind and one of the sixteen sets, which is the page modulo 16
+abbrev pub is_same_set : FillRow → FillRow → Bool
+is_same_set f g = (f.thread == g.thread) && ((kind_number f.key.kind == kind_number g.key.kind) && (f.key.page % 16 == g.key.page % 16))
+
+-- Fill i, which is f, stands for thread t at n before fill number c: it is the thread's, not below the floor and below c;
+-- no later one has its key; fewer than four later ones fell into its set; and its readings are current.
+pub record IsStanding (rows : Rows) (floor t n c i : ℕ) (f : FillRow) : Type 0 where
+  pub is : slice_get rows.fills i ≡ Some f
+  pub of_thread : f.thread ≡ t
+  pub from_floor : floor ≤ i
+  pub below : i < c
+  pub last : (j : ℕ) → i < j → j < c → (g : FillRow) → slice_get rows.fills j ≡ Some g → g.thread ≡ t → g.key ≡ f.key → ⊥
+  pub few : count_by (is_same_set f) (drop (i + 1) (take c rows.fills)) < 4
+  pub readings : List ReadRow
+  pub named : AreRows rows.reads (fill_reads f) readings
+  pub current : AllByRecursion (IsCurrent rows.dones t n) readings
+
+-- fill i stands and has this key
+pub record IsStandingFill (rows : Rows) (floor t n c : ℕ) (key : Key) (i : ℕ) : Type 0 where
+  pub fill : FillRow
+  pub standing : IsStanding rows floor t n c i fill
+  pub of_key : fill.key ≡ key
+
+-- the standing fill of a key, or none
+abbrev pub IsStandingKey : Rows → ℕ → ℕ → ℕ → ℕ → Key → Option ℕ → Type 0
+IsStandingKey rows floor t n c key (Some i) = IsStandingFill rows floor t n c key i
+IsStandingKey rows floor t n c key None = (j : ℕ) (g : FillRow) → IsStanding rows floor t n c j g → g.key ≡ key → ⊥
+
+-- the standing guest page of a guest real address, or none
+abbrev pub IsStandingPage : Rows → ℕ → ℕ → ℕ → ℕ → ℕ → ℕ → Option ℕ → Type 0
+IsStandingPage rows floor t n c lpid gra answer = IsStandingKey rows floor t n c (key_of GuestPage lpid 0 12 gra) answer
+
+-- a fill is of this kind, partition and process, and of the page in which an address lies
+pub record IsFor (kind : KeyKind) (lpid pid sought : ℕ) (f : FillRow) : Type 0 where
+  pub of_kind : f.key.kind ≡ kind
+  pub of_lpid : f.key.lpid ≡ lpid
+  pub of_pid : f.key.pid ≡ pid
+  pub of_page : f.key.page ≡ sought / 2 ^ f.key.left
+
+-- fill i stands for an address, and none that does leaves fewer bits
+pub record IsDeepestFill (rows : Rows) (floor t n c : ℕ) (kind : KeyKind) (lpid pid sought i : ℕ) : Type 0 where
+  pub fill : FillRow
+  pub standing : IsStanding rows floor t n c i fill
+  pub for_it : IsFor kind lpid pid sought fill
+  pub least : (j : ℕ) (g : FillRow) → IsStanding rows floor t n c j g → IsFor kind lpid pid sought g → fill.key.left ≤ g.key.left
+
+-- of the standing directories for an address the one that leaves the fewest bits, or none
+abbrev pub IsDeepest : Rows → ℕ → ℕ → ℕ → ℕ → KeyKind → ℕ → ℕ → ℕ → Option ℕ → Type 0
+IsDeepest rows floor t n c kind lpid pid sought (Some i) = IsDeepestFill rows floor t n c kind lpid pid sought i
+IsDeepest rows floor t n c kind lpid pid sought None = (j : ℕ) (g : FillRow) → IsStanding rows floor t n c j g → IsFor kind lpid pid sought g → ⊥

@@ -1,0 +1,69 @@
+-- What a translation is given, and what it leaves.
+use Rattle.std.specs.Prelude.{◌≡◌, ℕ, ◌+◌, ◌≤◌, ◌<◌, List, [], ◌∷◌, ◌++◌, length, slice_get, Option, Some}
+use Rattle.std.specs.List.{AllByRecursion}
+use Rattle.journal_core.specs.declared.rows.ReadRow.{ReadRow}
+use Rattle.journal_core.specs.declared.rows.FillRow.{FillRow}
+use Rattle.journal_core.specs.declared.rows.Done.{Done}
+use Rattle.journal_core.specs.declared.rows.Done.TheVariants.{Global, Local, Ptcr}
+use Rattle.journal_core.specs.declared.rows.DoneRow.{DoneRow}
+use Rattle.journal_core.specs.Rows.{Rows, Shown}
+use Rattle.journal_core.specs.Readings.{IsTrueReading}
+use Rattle.journal_core.specs.Choice.{Reached}
+
+-- no operation was completed in the step that is being made
+abbrev pub IsQuiet : Rows → Type 0
+IsQuiet rows = AllByRecursion (λ (d : DoneRow). d.step < length rows.steps) rows.dones
+
+-- all readings are true
+abbrev pub AreTrue : (ℕ → ℕ → Option ℕ) → Rows → Type 0
+AreTrue past rows = AllByRecursion (IsTrueReading past) rows.reads
+
+-- how many fills and reads there are
+abbrev pub reached_of : Rows → Reached
+reached_of rows = record { fills = length rows.fills; reads = length rows.reads }
+
+-- reads, at most 36, and fills, at most 35, were added, and nothing else changed
+pub record OnlyAdds (old new : Shown) : Type 0 where
+  pub reads : List ReadRow
+  pub fills : List FillRow
+  pub few_reads : length reads ≤ 36
+  pub few_fills : length fills ≤ 35
+  pub rows : new ≡ record old { rows = record old.rows { reads = old.rows.reads ++ reads; fills = old.rows.fills ++ fills } }
+
+-- the rows before the last done row, and that row
+pub record IsLastDone (rows : Rows) (row : DoneRow) : Type 0 where
+  pub before : List DoneRow
+  pub is : rows.dones ≡ before ++ row ∷ []
+
+-- the list without its last element
+abbrev pub without_last : {A : Type 0} → List A → List A
+without_last [] = []
+without_last (x ∷ []) = []
+without_last (x ∷ (y ∷ more)) = x ∷ without_last (y ∷ more)
+
+-- the journal without its last done row
+abbrev pub without_done : Shown → Shown
+without_done j = record j { rows = record j.rows { dones = without_last j.rows.dones } }
+
+-- two journals have the same reads, fills, done rows and floor, and the second has no fewer steps
+pub record SameKept (j k : Shown) : Type 0 where
+  pub reads : k.rows.reads ≡ j.rows.reads
+  pub fills : k.rows.fills ≡ j.rows.fills
+  pub dones : k.rows.dones ≡ j.rows.dones
+  pub floor : k.floor ≡ j.floor
+  pub steps : length j.rows.steps ≤ length k.rows.steps
+
+-- two lists of values are equal but for one place
+pub record AreEqualBut (i : ℕ) (values new : List ℕ) : Type 0 where
+  pub count : length new ≡ length values
+  pub others : (j : ℕ) → (j ≡ i → ⊥) → slice_get new j ≡ slice_get values j
+
+-- after a completed operation the threads' values are as they were; after a change of a thread's partition table that
+-- thread's may be any
+abbrev pub values_after : Done → ℕ → List ℕ → List ℕ → Type 0
+values_after (Global op) t values new = new ≡ values
+values_after (Local op) t values new = new ≡ values
+values_after Ptcr t values new = AreEqualBut t values new
+
+abbrev pub ReachesValues : DoneRow → List ℕ → List ℕ → Type 0
+ReachesValues row values new = values_after row.what row.thread values new

@@ -1,0 +1,64 @@
+//! Reading tables and translating addresses, as a step uses them.
+
+ghost use Rattle.std.specs.Prelude.{◌≡◌, ℕ, ◌+◌, ◌≤◌, ◌↔◌, List, length, slice_get, Option, Some};
+ghost use Rattle.journal_core.specs.Past.{word_in};
+ghost use Rattle.journal_core.specs.Rows.{Shown};
+ghost use Rattle.journal_core.specs.Room.{read_places, fill_places};
+ghost use Rattle.journal_core.specs.Answers.{IsAnswer};
+ghost use Rattle.journal_core.specs.Translating.{IsQuiet, AreTrue, reached_of, OnlyAdds, IsLastDone, without_done, SameKept, ReachesValues};
+
+use crate::asks::{Ask, Found};
+use crate::journal::Journal;
+use crate::rows::DoneRow;
+
+/// Storage that tables are read from.
+pub trait TableReader {
+    /// The bytes of storage, from real address 0 on.
+    ghost ram: { Self → List ℕ };
+
+    /// The doubleword at a real address, its highest byte first, or `None` exactly where a byte of it is outside storage.
+    fn table_word(&self, at: u64) -> Option<u64>
+        ensures { result ≡ word_in (ram self.now) at };
+}
+
+/// What translates the addresses that the threads of a machine ask for.
+pub trait Translate {
+    /// It is for this thread.
+    ghost has_thread: { Self → ℕ → Type 0 };
+
+    /// It fits a journal, with one value of the partition table control register for each thread.
+    ghost fits: { Self → Shown → List ℕ → Type 0 };
+
+    /// Translates the address of an ask of a thread in the step that is being made.
+    ///
+    /// Where the reader gives storage as it stands before this step, and all readings of the journal are true, the answer
+    /// keeps the rule of a step.
+    fn translate<R: TableReader>(
+        &mut self,
+        reader: &R,
+        journal: &mut Journal,
+        thread: u8,
+        ask: &Ask,
+        moment: u32,
+    ) -> Found
+        requires reads { length journal.old.rows.reads + 36 ≤ read_places journal.old.reserved }
+        requires fills { length journal.old.rows.fills + 35 ≤ fill_places journal.old.reserved }
+        requires moment { moment ≡ length journal.old.rows.steps }
+        requires quiet { IsQuiet journal.old.rows }
+        requires thread { has_thread self.old thread }
+        requires fits { (values : List ℕ) × (slice_get values thread ≡ Some ask.now.ptcr) × fits self.old journal.old values }
+        ensures adds { OnlyAdds journal.old journal.new }
+        ensures answer { (past : ℕ → ℕ → Option ℕ) → ((at : ℕ) → past moment at ≡ word_in (R.ram reader.now) at) → AreTrue past journal.old.rows → IsAnswer past journal.new.rows thread moment (reached_of journal.old.rows) ask.now result (reached_of journal.new.rows) }
+        ensures fits { (values : List ℕ) → slice_get values thread ≡ Some ask.now.ptcr → fits self.old journal.old values → fits self.new journal.new values }
+        ensures threads { (t : ℕ) → has_thread self.new t ↔ has_thread self.old t };
+
+    /// Takes note of the last done row, after it was pushed.
+    fn complete(&mut self, journal: &Journal, row: &DoneRow)
+        requires last { IsLastDone journal.now.rows row.now }
+        requires fits { (values : List ℕ) × fits self.old (without_done journal.now) values }
+        ensures fits { (values new : List ℕ) → fits self.old (without_done journal.now) values → ReachesValues row.now values new → fits self.new journal.now new }
+        ensures threads { (t : ℕ) → has_thread self.new t ↔ has_thread self.old t };
+
+    /// Rows of writes, devices and steps keep it fitting.
+    ghost stays: { (s : Self) (j k : Shown) (values : List ℕ) → SameKept j k → fits s j values → fits s k values };
+}
