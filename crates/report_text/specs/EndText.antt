@@ -7,7 +7,7 @@ use Rattle.journal_core.specs.declared.rows.Ended.TheVariants.{AllRun, ScheduleE
 use Rattle.journal_core.specs.declared.rows.RowKind.{RowKind}
 use Rattle.journal_core.specs.declared.rows.RowKind.TheVariants.{Reads, Fills, Writes, Dones, Devices, Steps}
 use Rattle.journal_core.specs.declared.rows.StopName.{StopName}
-use Rattle.journal_core.specs.declared.rows.StopName.TheVariants.{NoStorage, Unsupported}
+use Rattle.journal_core.specs.declared.rows.StopName.TheVariants.{NoStorage, Unsupported, InvalidForm, DeviceAccess, ProfileBits, UnknownSpr, BadInvalidation, HashedPartition, GuestZero, DeviceStop}
 
 -- the name of a list of rows
 abbrev pub kind_name : RowKind → List ℕ
@@ -22,6 +22,14 @@ kind_name Steps = codes "steps"
 abbrev pub stop_name : StopName → List ℕ
 stop_name NoStorage = codes "NoStorage"
 stop_name Unsupported = codes "Unsupported"
+stop_name InvalidForm = codes "InvalidForm"
+stop_name DeviceAccess = codes "DeviceAccess"
+stop_name ProfileBits = codes "ProfileBits"
+stop_name UnknownSpr = codes "UnknownSpr"
+stop_name BadInvalidation = codes "BadInvalidation"
+stop_name HashedPartition = codes "HashedPartition"
+stop_name GuestZero = codes "GuestZero"
+stop_name DeviceStop = codes "DeviceStop"
 
 -- a list that is full, with the number of its rows
 abbrev pub full_text : RowKind → ℕ → List ℕ

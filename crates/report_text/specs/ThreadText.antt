@@ -2,6 +2,7 @@
 use Rattle.std.specs.Prelude.{ℕ, ◌+◌, ◌/◌, ◌%◌, List, [], ◌∷◌, ◌++◌, codes, slice_index}
 use Rattle.std.specs.Fmt.{decimal}
 use Rattle.line_text.specs.Text.{hex, end_of_line, text_of}
+use Rattle.ppc_ops.specs.Results.{xer_number}
 use Rattle.thread_regs.specs.declared.registers.Thread.{Thread}
 use Rattle.thread_regs.specs.Registers.{gpr}
 
@@ -12,7 +13,7 @@ abbrev pub nia_line : Thread → List ℕ
 nia_line t = codes "nia " ++ hex 16 t.nia ++ codes " msr " ++ hex 16 t.msr ++ end_of_line
 
 abbrev pub cr_line : Thread → List ℕ
-cr_line t = codes "cr " ++ hex 8 t.cr ++ codes " xer " ++ hex 16 t.xer ++ end_of_line
+cr_line t = codes "cr " ++ hex 8 t.cr ++ codes " xer " ++ hex 16 (xer_number t.xer) ++ end_of_line
 
 abbrev pub lr_line : Thread → List ℕ
 lr_line t = codes "lr " ++ hex 16 t.lr ++ codes " ctr " ++ hex 16 t.ctr ++ codes " tar " ++ hex 16 t.tar ++ end_of_line

@@ -25,11 +25,19 @@ fn kind_name(kind: RowKind) -> &'static [u8]
 /// The name of a stop.
 fn stop_name(name: StopName) -> &'static [u8]
     ensures name { result.now ≡ stop_name name }
-    ensures most { length result.now ≤ 11 }
+    ensures most { length result.now ≤ 15 }
 {
     match name {
         StopName::NoStorage => b"NoStorage",
         StopName::Unsupported => b"Unsupported",
+        StopName::InvalidForm => b"InvalidForm",
+        StopName::DeviceAccess => b"DeviceAccess",
+        StopName::ProfileBits => b"ProfileBits",
+        StopName::UnknownSpr => b"UnknownSpr",
+        StopName::BadInvalidation => b"BadInvalidation",
+        StopName::HashedPartition => b"HashedPartition",
+        StopName::GuestZero => b"GuestZero",
+        StopName::DeviceStop => b"DeviceStop",
     }
 }
 

@@ -3,6 +3,7 @@ ghost use Rattle.std.specs.Prelude.{◌≡◌, None, Some};
 use super::*;
 use journal_core::{Ended, Journal, RowKind, StepEnd, StepRow, StopName, Use};
 use outer_io::{MemSink, Sink, SinkFault};
+use ppc_ops::Xer;
 use std::test::Fail;
 use thread_regs::{Thread, Threads};
 
@@ -37,7 +38,7 @@ sprg 0000000000000000 0000000000000000 0000000000000000 0000000000000000 hsprg 0
 /// The end of a report, whose thread 1 has another value in each register.
 const SECOND_THREAD: &str = "thread 1
 nia 0000000000000020 msr 0000000000000021
-cr 00000022 xer 0000000000000023
+cr 00000022 xer 00000000a0040000
 lr 0000000000000024 ctr 0000000000000025 tar 0000000000000026
 r00 0000000000001000 0000000000001001 0000000000001002 0000000000001003
 r04 0000000000001004 0000000000001005 0000000000001006 0000000000001007
@@ -102,7 +103,7 @@ fn set_each_register(thread: &mut Thread) {
     thread.nia = 0x20;
     thread.msr = 0x21;
     thread.cr = 0x22;
-    thread.xer = 0x23;
+    thread.xer = Xer::of(0xffff_ffff_a004_ffff);
     thread.lr = 0x24;
     thread.ctr = 0x25;
     thread.tar = 0x26;
@@ -166,6 +167,10 @@ fn each_end_has_its_name(rt: HostRuntime) -> Result<(), Fail> {
         (
             Ended::Stopped(StopName::Unsupported, 0xc800_0000),
             "radix 1\nend stopped Unsupported 00000000c8000000\nsteps 0\ntb 0000000000000000\nthread 0\n",
+        ),
+        (
+            Ended::Stopped(StopName::InvalidForm, 0x8463_0000),
+            "radix 1\nend stopped InvalidForm 0000000084630000\nsteps 0\ntb 0000000000000000\nthread 0\n",
         ),
         (
             Ended::Stopped(StopName::NoStorage, 0xfff0),

@@ -56,7 +56,7 @@ fn cr_line(thread: &Thread) -> Line
     line.push_bytes(b"cr ");
     line.push_hex(8, u64::from(thread.cr));
     line.push_bytes(b" xer ");
-    line.push_hex(16, thread.xer);
+    line.push_hex(16, thread.xer.register());
     line.push(b'\n');
     line
 }

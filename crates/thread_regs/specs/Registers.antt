@@ -1,5 +1,5 @@
 -- The registers of hardware threads, and their reset state.
-use Rattle.std.specs.Prelude.{ℕ, zero, suc, ◌+◌, ◌-◌, ◌%◌, List, [], ◌∷◌, slice_index, slice_index_or, slice_set, replicate}
+use Rattle.std.specs.Prelude.{ℕ, false, zero, suc, ◌+◌, ◌-◌, ◌%◌, List, [], ◌∷◌, slice_index, slice_index_or, slice_set, replicate}
 use Rattle.thread_regs.specs.declared.registers.Thread.{Thread}
 
 -- the reset state: r3 and PIR are the thread's number, r12 the entry, and instructions lie at multiples of 4
@@ -7,7 +7,7 @@ unfoldable pub reset : ℕ → ℕ → Thread
 reset number entry = record {
   gpr = slice_set (slice_set (replicate 32 0) 3 number) 12 entry;
   cr = 0;
-  xer = 0;
+  xer = record { so = false; ov = false; ca = false; ov32 = false; ca32 = false };
   lr = 0;
   ctr = 0;
   tar = 0;

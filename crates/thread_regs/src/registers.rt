@@ -3,6 +3,8 @@
 ghost use Rattle.std.specs.Prelude.{◌≡◌, ◌<◌};
 ghost use Rattle.thread_regs.specs.Registers.{reset, gpr, with_gpr, with_nia};
 
+use ppc_ops::Xer;
+
 /// The registers of one hardware thread (Power ISA, Book I chapters 2 and 3, Book III chapters 2 to 7).
 ///
 /// A register that is narrower than 64 bits stands in its low bits.
@@ -12,8 +14,8 @@ pub struct Thread {
     pub gpr: [u64; 32],
     /// The condition register.
     pub cr: u32,
-    /// The fixed-point exception register: SO, OV, CA, OV32 and CA32, all other bits 0.
-    pub xer: u64,
+    /// The fixed-point exception register.
+    pub xer: Xer,
     /// The link register.
     pub lr: u64,
     /// The count register.
@@ -86,7 +88,13 @@ impl Thread {
         Thread {
             gpr,
             cr: 0,
-            xer: 0,
+            xer: Xer {
+                so: false,
+                ov: false,
+                ca: false,
+                ov32: false,
+                ca32: false,
+            },
             lr: 0,
             ctr: 0,
             tar: 0,
