@@ -2,7 +2,7 @@
 use Rattle.std.proofs.Common.{◌≡◌, ℕ, ◌∷◌, length, slice_set, refl, ap, ◌∙◌}
 use Rattle.std.proofs.lemmas.List.{append-nil, length-map, length-set}
 use Rattle.journal_core.specs.declared.rows.StepEnd.{StepEnd}
-use Rattle.journal_core.specs.declared.rows.StepEnd.TheVariants.{Ran, Stopped}
+use Rattle.journal_core.specs.declared.rows.StepEnd.TheVariants.{Ran, Took, Stopped}
 use Rattle.journal_core.specs.Rows.{Rows, Shown}
 use Rattle.journal_core.specs.Steps.{Own, with_own}
 use Rattle.journal_core.specs.Ends.{IsRunning}
@@ -16,6 +16,7 @@ use Rattle.ppc_machine.specs.Machines.{StepsOn}
 length-end : (s : State) (own : Own) (end : StepEnd) → length (after_end s own end).threads ≡ length s.threads
 unfolding all_ticked
 length-end s own Ran = length-map (slice_set s.threads own.row.thread _) ticked ∙ length-set s.threads own.row.thread _
+length-end s own (Took cause) = refl
 length-end s own (Stopped name value) = refl
 
 -- no step makes or ends a thread

@@ -2,13 +2,13 @@
 use Rattle.std.proofs.Common.{◌≡◌, ℕ, List, [], slice_set, true, false, Option, Some, None, is_some, unwrap_or, refl}
 use Rattle.std.proofs.lemmas.List.{set-get_or}
 use Rattle.journal_core.specs.declared.rows.StepEnd.{StepEnd}
-use Rattle.journal_core.specs.declared.rows.StepEnd.TheVariants.{Ran, Stopped}
+use Rattle.journal_core.specs.declared.rows.StepEnd.TheVariants.{Ran, Took, Stopped}
 use Rattle.journal_core.specs.declared.rows.StopName.TheVariants as stops
 use Rattle.journal_core.specs.Past.{ram_after}
 use Rattle.journal_core.specs.Steps.{Own}
 use Rattle.thread_regs.specs.declared.registers.Thread.{Thread}
 use Rattle.thread_regs.specs.Registers.{reset, thread_at}
-use Rattle.ppc_machine.specs.Rule.{EndWord, EndFetched, after_end}
+use Rattle.ppc_machine.specs.Rule.{EndForm, EndFetched, after_end}
 use Rattle.ppc_machine.specs.Endings.{acted, threads_after}
 
 -- a step that ran fetched a word
@@ -22,18 +22,21 @@ pub finished : (threads : List Thread) (ram : List ℕ) (own : Own) (regs : Thre
     after_end (record { threads = threads; ram = ram }) own end ≡ record { threads = threads_after (slice_set threads own.row.thread regs) end; ram = ram }
 unfolding ram_after
 finished threads ram own regs Ran none is = rw (none, is) refl
+finished threads ram own regs (Took cause) none is =
+    let same = set-get_or threads own.row.thread (reset 0 0) in
+    rw (is, same) refl
 finished threads ram own regs (Stopped name value) none is =
     let same = set-get_or threads own.row.thread (reset 0 0) in
     rw (is, same) refl
 
 -- how a word ends that is executed, or is not
-pub executed : (word : ℕ) (after : Option Thread) → is_some after ≡ true → EndWord word Ran after
-unfolding EndWord
+pub executed : (word : ℕ) (after : Option Thread) → is_some after ≡ true → EndForm word Ran after
+unfolding EndForm
 executed word (Some after) some = refl
 executed word None some = absurd cc
 
-pub not_executed : (word : ℕ) (after : Option Thread) → is_some after ≡ false → EndWord word (Stopped stops.Unsupported word) after
-unfolding EndWord
+pub not_executed : (word : ℕ) (after : Option Thread) → is_some after ≡ false → EndForm word (Stopped stops.Unsupported word) after
+unfolding EndForm
 not_executed word (Some after) none = absurd cc
 not_executed word None none = refl
 

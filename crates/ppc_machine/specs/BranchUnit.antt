@@ -2,7 +2,7 @@
 use Rattle.std.specs.Prelude.{ℤ}
 use Rattle.thread_regs.specs.declared.registers.Thread.{Thread}
 use Rattle.thread_regs.specs.Registers.{with_nia}
-use Rattle.ppc_machine.specs.FixedArith.{sum64_signed}
+use Rattle.ppc_machine.specs.FixedPoint.{sum64_signed}
 
 -- b: the next instruction is so many bytes from this one
 abbrev pub b_effect : ℤ → Thread → Thread

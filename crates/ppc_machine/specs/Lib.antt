@@ -5,8 +5,7 @@ pub use Rattle.journal_core.specs.Past
 pub use Rattle.journal_core.specs.Steps
 pub use Rattle.journal_core.specs.Runs
 pub use Rattle.journal_core.specs.Ends
-pub mod Decode
-pub mod FixedArith
+pub mod FixedPoint
 pub mod BranchUnit
 pub mod Effects
 pub mod States

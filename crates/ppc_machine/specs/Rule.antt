@@ -1,7 +1,7 @@
 -- The rule of one step, and the state after it.
 use Rattle.std.specs.Prelude.{◌≡◌, ℕ, ◌<◌, List, [], ◌∷◌, slice_set, Option, Some, None, length}
 use Rattle.journal_core.specs.declared.rows.StepEnd.{StepEnd}
-use Rattle.journal_core.specs.declared.rows.StepEnd.TheVariants.{Ran, Stopped}
+use Rattle.journal_core.specs.declared.rows.StepEnd.TheVariants.{Ran, Took, Stopped}
 use Rattle.journal_core.specs.declared.rows.StopName.TheVariants as stops
 use Rattle.journal_core.specs.declared.rows.StepRow.{StepRow}
 use Rattle.journal_core.specs.declared.rows.Use.TheVariants.{Real, Unused}
@@ -13,19 +13,29 @@ use Rattle.journal_core.specs.Runs.{Made}
 use Rattle.journal_core.specs.Ends.{IsRunning}
 use Rattle.thread_regs.specs.declared.registers.Thread.{Thread}
 use Rattle.thread_regs.specs.Registers.{thread_at}
-use Rattle.ppc_machine.specs.Effects.{effect_word, after_word}
+use Rattle.ppc_words.specs.declared.decoded.Decoded.{Decoded}
+use Rattle.ppc_words.specs.declared.decoded.Decoded.TheVariants.{Form, Zero, InvalidForm, Unsupported}
+use Rattle.ppc_words.specs.Decode.{decoded_of}
+use Rattle.ppc_machine.specs.Effects.{effect, after_word}
 use Rattle.ppc_machine.specs.Clock.{all_ticked}
 use Rattle.ppc_machine.specs.States.{State, real_of, word_at}
 
--- how a step ends that fetched a word with this effect: a form that is executed runs, any other word stops the
--- machine with the word
-unfoldable pub EndWord : ℕ → StepEnd → Option Thread → Type 0
-EndWord word end (Some after) = end ≡ Ran
-EndWord word end None = end ≡ Stopped stops.Unsupported word
+-- how a step ends whose word means a form with this effect: one that is executed runs, any other stops the machine
+-- with the word
+unfoldable pub EndForm : ℕ → StepEnd → Option Thread → Type 0
+EndForm word end (Some after) = end ≡ Ran
+EndForm word end None = end ≡ Stopped stops.Unsupported word
+
+-- how a step of this thread ends whose word means this: what is no form stops the machine with the word
+unfoldable pub EndWord : Thread → ℕ → StepEnd → Decoded → Type 0
+EndWord t word end (Form insn) = EndForm word end (effect insn t)
+EndWord t word end Zero = end ≡ Stopped stops.Unsupported word
+EndWord t word end (InvalidForm op) = end ≡ Stopped stops.InvalidForm word
+EndWord t word end Unsupported = end ≡ Stopped stops.Unsupported word
 
 -- how a step of this thread ends that fetched this word, or none, at a real address
 unfoldable pub EndFetched : Thread → ℕ → StepEnd → Option ℕ → Type 0
-EndFetched t at end (Some word) = EndWord word end (effect_word word t)
+EndFetched t at end (Some word) = EndWord t word end (decoded_of word)
 EndFetched t at end None = end ≡ Stopped stops.NoStorage at
 
 -- the fetch: the row has the address of the instruction, and its word exactly where its bytes are all in RAM
@@ -68,9 +78,11 @@ effected s own = record {
 abbrev pub after_tick : State → State
 after_tick s = record s { threads = all_ticked s.threads }
 
--- the state after a step that ends so: a form has its effect, and the clock ticks; a stop changes nothing
+-- the state after a step that ends so: a form has its effect, and the clock ticks; a stop changes nothing. No interrupt
+-- is taken yet, which the rule says too.
 abbrev pub after_end : State → Own → StepEnd → State
 after_end s own Ran = after_tick (effected s own)
+after_end s own (Took cause) = s
 after_end s own (Stopped name value) = s
 
 -- the state after one step

@@ -3,7 +3,7 @@
 ghost use Rattle.std.specs.Prelude.{◌≡◌};
 ghost use Rattle.ppc_machine.specs.BranchUnit.{b_effect};
 
-use crate::fixed_arith::sum_signed;
+use crate::fixed_point::sum_signed;
 use thread_regs::Thread;
 
 /// Executes `b`: the next instruction is `li` bytes from this one.

@@ -2,16 +2,12 @@
 #![tactic(auto)]
 
 mod branch_unit;
-mod fixed_arith;
+mod fixed_point;
 mod interrupts;
 mod machines;
-mod ppc_decode;
-mod ppc_ops;
 mod ppc_step;
 
 pub use machines::Machine;
-pub use ppc_decode::{Decoded, decode};
-pub use ppc_ops::{Insn, Op};
 
 #[cfg(test)]
 mod tests;

@@ -43,7 +43,7 @@ fn last_stop(journal: &Journal) -> Option<(StopName, u64)>
     match journal.step(steps - 1) {
         None => None,
         Some(row) => match row.end {
-            StepEnd::Ran => None,
+            StepEnd::Ran | StepEnd::Took(_) => None,
             StepEnd::Stopped(name, value) => Some((name, value)),
         },
     }

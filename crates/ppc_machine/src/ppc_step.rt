@@ -1,20 +1,23 @@
 //! One step.
 
-ghost use Rattle.std.specs.Prelude.{◌≡◌, ◌<◌, ◌≤◌, Some, is_some, unwrap_or, length};
+ghost use Rattle.std.specs.Prelude.{◌≡◌, ◌<◌, ◌≤◌, true, false, Some, is_some, unwrap_or, length};
 ghost use Rattle.journal_core.specs.Room.{HasRoom};
-ghost use Rattle.ppc_machine.specs.Decode.{FitsInsn};
-ghost use Rattle.ppc_machine.specs.Effects.{effect, effect_word};
+ghost use Rattle.ppc_ops.specs.Forms.{IsForm};
+ghost use Rattle.fixed_arith.specs.Arith.{is_arithmetic};
+ghost use Rattle.fixed_logic.specs.Logic.{is_logic};
+ghost use Rattle.ppc_words.specs.Decode.{decoded_of};
+ghost use Rattle.ppc_machine.specs.Effects.{effect};
 ghost use Rattle.ppc_machine.specs.States.{real_of, word_at};
 ghost use Rattle.ppc_machine.specs.Rule.{EndWord, StepsTo};
 ghost use Rattle.ppc_machine.specs.Endings.{EndsAs, acted, threads_after};
 ghost use Rattle.ppc_machine.specs.Held.{state_of};
 
 use crate::branch_unit::b;
-use crate::fixed_arith::{add, addi};
+use crate::fixed_point::{base, execute_arith, execute_logic, following, turning};
 use crate::interrupts::tick;
-use crate::ppc_decode::{Decoded, decode};
-use crate::ppc_ops::{Insn, Op};
 use journal_core::{Journal, StepEnd, StepRow, StopName, Use};
+use ppc_ops::Insn;
+use ppc_words::{Decoded, decode};
 use real_store::Store;
 use thread_regs::{Thread, Threads};
 
@@ -61,34 +64,107 @@ fn fetch(store: &Store, at: u64) -> Option<u32>
     }
 }
 
-/// Executes a form, and says whether this machine does so. A form that it does not execute has no effect.
+/// Executes an arithmetic form, and says whether it is one. Any other has no effect.
 #[tactic(auto, unfolding(crate::specs::Effects::effect))]
-fn execute(thread: &mut Thread, insn: Insn) -> bool
-    requires { FitsInsn insn }
-    ensures executed { result ≡ is_some (effect insn thread.old) }
-    ensures thread { thread.new ≡ unwrap_or (effect insn thread.old) thread.old }
+fn execute_sums(thread: &mut Thread, insn: Insn) -> bool
+    requires { IsForm insn }
+    ensures executed { result ≡ is_arithmetic insn }
+    ensures done { result ≡ true → effect insn thread.old ≡ Some thread.new }
+    ensures other { result ≡ false → thread.new ≡ thread.old }
 {
     match insn {
-        Insn::AddImm {
-            op: Op::Addi,
-            rt,
-            ra,
-            si,
-        } => {
-            addi(thread, rt, ra, si);
+        Insn::AddImm { op, rt, ra, .. } => {
+            execute_arith(thread, &insn, rt, base(thread, op, ra), 0, 0);
             true
         }
-        Insn::Arith {
-            op: Op::Add,
+        Insn::AddPc { rt, .. } => {
+            execute_arith(thread, &insn, rt, following(thread), 0, 0);
+            true
+        }
+        Insn::Arith { rt, ra, rb, .. } => {
+            execute_arith(thread, &insn, rt, thread.gpr(ra), thread.gpr(rb), 0);
+            true
+        }
+        Insn::MulHigh { rt, ra, rb, .. } => {
+            execute_arith(thread, &insn, rt, thread.gpr(ra), thread.gpr(rb), 0);
+            true
+        }
+        Insn::Modulo { rt, ra, rb, .. } => {
+            execute_arith(thread, &insn, rt, thread.gpr(ra), thread.gpr(rb), 0);
+            true
+        }
+        Insn::MulAdd {
             rt,
             ra,
             rb,
-            oe: false,
-            rc: false,
+            third,
+            ..
         } => {
-            add(thread, rt, ra, rb);
+            let c = thread.gpr(third);
+            execute_arith(thread, &insn, rt, thread.gpr(ra), thread.gpr(rb), c);
             true
         }
+        _ => false,
+    }
+}
+
+/// Executes a logic form, and says whether it is one. Any other has no effect.
+#[tactic(auto, unfolding(crate::specs::Effects::effect))]
+fn execute_bits(thread: &mut Thread, insn: Insn) -> bool
+    requires { IsForm insn }
+    ensures executed { result ≡ is_logic insn }
+    ensures done { result ≡ true → effect insn thread.old ≡ Some thread.new }
+    ensures other { result ≡ false → thread.new ≡ thread.old }
+{
+    match insn {
+        Insn::LogicImm { ra, rs, .. } => {
+            execute_logic(thread, &insn, ra, thread.gpr(rs), 0);
+            true
+        }
+        Insn::Logic { ra, rs, rb, .. } => {
+            execute_logic(thread, &insn, ra, thread.gpr(rs), thread.gpr(rb));
+            true
+        }
+        Insn::Unary { ra, rs, .. } => {
+            execute_logic(thread, &insn, ra, thread.gpr(rs), 0);
+            true
+        }
+        Insn::Count { ra, rs, .. } => {
+            execute_logic(thread, &insn, ra, thread.gpr(rs), 0);
+            true
+        }
+        Insn::Bytes { ra, rs, rb, .. } => {
+            execute_logic(thread, &insn, ra, thread.gpr(rs), thread.gpr(rb));
+            true
+        }
+        Insn::ShiftImm { ra, rs, .. } => {
+            execute_logic(thread, &insn, ra, thread.gpr(rs), 0);
+            true
+        }
+        Insn::RotWord { ra, rs, by, .. } => {
+            execute_logic(thread, &insn, ra, thread.gpr(rs), thread.gpr(by));
+            true
+        }
+        Insn::RotDouble { op, ra, rs, by, .. } => {
+            let b = turning(thread, op, by);
+            execute_logic(thread, &insn, ra, thread.gpr(rs), b);
+            true
+        }
+        _ => false,
+    }
+}
+
+/// Executes a form, and says whether this machine does so. A form that it does not execute has no effect.
+#[tactic(auto, unfolding(crate::specs::Effects::effect))]
+fn execute(thread: &mut Thread, insn: Insn) -> bool
+    requires { IsForm insn }
+    ensures executed { result ≡ is_some (effect insn thread.old) }
+    ensures thread { thread.new ≡ unwrap_or (effect insn thread.old) thread.old }
+{
+    if execute_sums(thread, insn) || execute_bits(thread, insn) {
+        return true;
+    }
+    match insn {
         Insn::Jump {
             li,
             aa: false,
@@ -104,7 +180,7 @@ fn execute(thread: &mut Thread, insn: Insn) -> bool
 /// Executes a word, and says how that ends.
 #[tactic(auto, unfolding(crate::specs::Effects::effect_word, crate::specs::Effects::after_word))]
 fn perform_word(thread: &mut Thread, word: u32) -> StepEnd
-    ensures end { EndWord word result (effect_word word thread.old) }
+    ensures end { EndWord thread.old word result (decoded_of word) }
     ensures thread { thread.new ≡ acted thread.old (Some word) result }
 {
     match decode(word) {
@@ -115,6 +191,8 @@ fn perform_word(thread: &mut Thread, word: u32) -> StepEnd
                 StepEnd::Stopped(StopName::Unsupported, u64::from(word))
             }
         }
+        Decoded::InvalidForm(_) => StepEnd::Stopped(StopName::InvalidForm, u64::from(word)),
+        Decoded::Zero => StepEnd::Stopped(StopName::Unsupported, u64::from(word)),
         Decoded::Unsupported => StepEnd::Stopped(StopName::Unsupported, u64::from(word)),
     }
 }
@@ -153,7 +231,7 @@ fn finish(threads: &mut Threads, end: StepEnd)
 {
     match end {
         StepEnd::Ran => tick(threads),
-        StepEnd::Stopped(_, _) => {}
+        StepEnd::Took(_) | StepEnd::Stopped(_, _) => {}
     }
 }
 

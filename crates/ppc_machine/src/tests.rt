@@ -32,33 +32,6 @@ fn next_step(rt: &impl Abort, machine: &mut Machine) -> StepEnd {
 }
 
 #[test]
-fn words_mean_one_of_three_forms(rt: HostRuntime) {
-    let add = Insn::Arith {
-        op: Op::Add,
-        rt: 4,
-        ra: 3,
-        rb: 3,
-        oe: false,
-        rc: false,
-    };
-    let back = Insn::Jump {
-        li: -4,
-        aa: false,
-        lk: false,
-    };
-    let addi = Insn::AddImm {
-        op: Op::Addi,
-        rt: 3,
-        ra: 0,
-        si: -1,
-    };
-    assert_eq!(rt; decode(0x7c83_1a14), Decoded::Form(add));
-    assert_eq!(rt; decode(0x4bff_fffc), Decoded::Form(back));
-    assert_eq!(rt; decode(0x3860_ffff), Decoded::Form(addi));
-    assert_eq!(rt; decode(0xc800_0000), Decoded::Unsupported);
-}
-
-#[test]
 fn three_instructions_run_by_a_schedule(rt: HostRuntime) -> Result<(), Fail> {
     let words = [1, 0, 0x60, 0x38, 0x14, 0x1a, 0x83, 0x7c, 0, 0, 0, 0x48];
     let image = image_at(rt.alloc(), 0x1_0000, &words)?;

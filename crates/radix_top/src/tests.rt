@@ -3,5 +3,6 @@
 mod commands;
 mod faults;
 mod files;
+mod forms;
 mod runs;
 mod support;

@@ -3,6 +3,8 @@
 use super::support::{FIRST, ONE_THREAD, image, run};
 use crate::Status;
 use journal_core::{Ended, StopName};
+use std::alloc::Global;
+use std::process::Abort;
 use std::test::Fail;
 
 /// The report of the first program after three steps.
@@ -83,6 +85,26 @@ nia 0000000000010000 msr 9000000000001001
 ";
     assert!(rt; left.text.as_slice().starts_with(front.as_bytes()));
     Ok(())
+}
+
+/// A program of one word stops at it by this name, with the word.
+fn stops_at(rt: &impl Abort, alloc: Global, word: u32, name: StopName) -> Result<(), Fail> {
+    let file = image(alloc, 0x1_0000, 0x1_0000, &[word])?;
+    let left = run(alloc, &file, ONE_THREAD, "1")?;
+    assert_eq!(rt; left.status, Status::Stopped(name, u64::from(word)));
+    assert_eq!(rt; left.steps, Some(1));
+    Ok(())
+}
+
+#[test]
+fn a_word_that_is_no_form_or_is_not_executed_stops_by_name(rt: HostRuntime) -> Result<(), Fail> {
+    let alloc = rt.alloc();
+    stops_at(&rt, alloc, 0x8463_0000, StopName::InvalidForm)?;
+    stops_at(&rt, alloc, 0x4e00_0420, StopName::InvalidForm)?;
+    stops_at(&rt, alloc, 0, StopName::Unsupported)?;
+    stops_at(&rt, alloc, 0x8083_0000, StopName::Unsupported)?;
+    stops_at(&rt, alloc, 0x4800_0001, StopName::Unsupported)?;
+    stops_at(&rt, alloc, 0x7fe0_0008, StopName::Unsupported)
 }
 
 #[test]
