@@ -3,17 +3,13 @@ use Rattle.std.proofs.Common.{◌≡◌, ℕ, ◌+◌, ◌-◌, ◌*◌, ◌/◌
 use Rattle.std.specs.Prelude.{if◌then◌else◌}
 use Rattle.journal_core.proofs.SamePage.{same_more, same_beyond, root_large, same_entry, same_real, IsLarge, large_node, large_tree, large_entry, large_start, same_after_entry}
 use Rattle.journal_core.specs.Rights.{bits}
-use Rattle.journal_core.specs.Faults.{process_fault, kind_bits}
-use Rattle.journal_core.specs.PartitionWalk.{SameOver, IsEntryRead, IsTreeRead, has_entry, entry_place, root_bits, node_of, real_in, entry_at, part_start, after_entry, after_tree, at_node}
+use Rattle.journal_core.specs.PartitionWalk.{SameOver, has_entry, entry_place, root_bits, node_of, real_in, entry_at, part_start, after_entry, after_tree, at_node}
 use Rattle.journal_core.specs.Places.{place_of}
 use Rattle.journal_core.specs.Walk.{Task, granted, arrived, inside, enter, at_table, at_result, process_granted, in_process, after_second, after_process_entry, next, stage_after, process_start, start_at, task_at, task_of, start_of}
-use Rattle.journal_core.specs.Readings.{IsSecondRead, IsProcessEntryRead, IsProcessRead, IsRead, Follows}
-use Rattle.journal_core.specs.Standing.{key_of}
+use Rattle.journal_core.specs.Readings.{IsRead, Follows}
 use Rattle.journal_core.specs.Fills.{own_key}
 use Rattle.journal_core.specs.Choice.{IsTranslated}
 use Rattle.journal_core.specs.declared.rows.ReadRow.{ReadRow}
-use Rattle.journal_core.specs.declared.rows.Key.{Key}
-use Rattle.journal_core.specs.declared.rows.KeyKind.{KeyKind}
 use Rattle.journal_core.specs.declared.rows.KeyKind.TheVariants.{Translation, GuestPage}
 use Rattle.journal_core.specs.declared.asks.AccessKind.{AccessKind}
 use Rattle.journal_core.specs.declared.asks.Ask.{Ask}

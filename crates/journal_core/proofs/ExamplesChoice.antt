@@ -26,10 +26,11 @@ use Rattle.journal_core.specs.declared.asks.Ask.{Ask}
 use Rattle.journal_core.specs.declared.asks.AccessKind.TheVariants.{Fetch, Load}
 use Rattle.journal_core.specs.declared.causes.Cause.TheVariants.{DataSegment}
 use Rattle.journal_core.specs.KeptLaws.{AreOf}
-use Rattle.journal_core.specs.declared.asks.Found.TheVariants.{Real, Fault}
+use Rattle.journal_core.specs.declared.asks.Found.TheVariants.{Real, Fault, Stop}
 use Rattle.journal_core.specs.declared.walks.NestResult.{NestResult}
 use Rattle.journal_core.specs.declared.walks.NestResult.TheVariants.{Page}
-use Rattle.journal_core.specs.declared.walks.NestResult.TheVariants.{Fault as WalkFault}
+use Rattle.journal_core.specs.declared.walks.NestResult.TheVariants.{Fault as WalkFault, Stop as WalkStop}
+use Rattle.journal_core.specs.declared.rows.StopName.TheVariants.{NoStorage}
 use Rattle.journal_core.specs.declared.walks.Stage.{Stage}
 use Rattle.journal_core.specs.declared.walks.Stage.TheVariants.{SecondWord, PartEntry, PartTable, ProcessEntry, ProcessTable, Over}
 use Rattle.journal_core.specs.declared.walks.TrailItem.{TrailItem}
@@ -196,6 +197,50 @@ away_load = (
     reads_to = refl;
     fills_to = refl;
     reads = refl;
+  },
+)
+
+-- where storage has no word, a load stops the machine at the first one that it wants, and adds no row (Choice, ChoseStop,
+-- IsGap)
+abbrev lost : Ask
+lost = ask_of 20480 Load
+
+abbrev no_word : ℕ → Option ℕ
+no_word at = None
+
+no_word_page : (items : List TrailItem) (real : ℕ) → Resumed no_word 7 nothing_known lost items (Page real) → ⊥
+unfolding place_of process_start
+no_word_page [] real h = different h.1.1
+  where
+    different : Page real ≡ WalkStop NoStorage 131096 → ⊥
+    different e = cc
+no_word_page (New r ∷ items) real h = different h.2.stands
+  where
+    different : None ≡ Some r.value → ⊥
+    different e = cc
+no_word_page (Old i ∷ items) real h = different h.2
+  where
+    different : [] ≡ i ∷ h.0 → ⊥
+    different e = cc
+
+is_no_real : IsTranslated lost
+unfolding place_of
+is_no_real a e = cc
+
+lost_load : Choice no_word no_rows 0 0 7 none_yet lost (Stop NoStorage 131096) none_yet
+unfolding place_of process_start
+lost_load = (
+  is_no_real,
+  record {
+    rs = [];
+    fresh = record {
+      known = nothing_known;
+      knows = nothing_known_stands;
+      none_permits = λ i real hit. none_below i hit.standing.below;
+      none_resumes = no_word_page;
+      fresh = record { walk = record { follows = tt; ends = (refl, refl) }; new = tt };
+    };
+    same = (refl, refl);
   },
 )
 

@@ -1,11 +1,12 @@
 -- What invalidations cover, by computation; each line says which definitions it exercises.
-use Rattle.std.proofs.Common.{◌≡◌, ℕ, true, false, refl}
-use Rattle.journal_core.specs.Covers.{covers, done_covers, reaches, ends_reading}
+use Rattle.std.proofs.Common.{◌≡◌, ℕ, ◌<◌, ◌≤◌, List, [], ◌∷◌, true, false, refl, arith}
+use Rattle.journal_core.specs.Covers.{covers, done_covers, reaches, ends_reading, IsCurrent}
 use Rattle.journal_core.specs.declared.rows.Role.{Role}
 use Rattle.journal_core.specs.declared.rows.Role.TheVariants.{Pate, Prte, ProcessDir, ProcessLeaf, PartLeaf}
 use Rattle.journal_core.specs.declared.rows.ReadRow.{ReadRow}
 use Rattle.journal_core.specs.declared.rows.Inval.{Inval}
 use Rattle.journal_core.specs.declared.rows.Done.TheVariants.{Global, Local, Ptcr}
+use Rattle.journal_core.specs.declared.rows.DoneRow.{DoneRow}
 
 -- a reading made in step 3: its role, partition, process, the address that it sought and how many bits it leaves
 abbrev reading : Role → ℕ → ℕ → ℕ → ℕ → ReadRow
@@ -195,3 +196,31 @@ same_step_ends = refl
 earlier_ends_not : ends_reading 0 small_leaf (record { step = 2; thread = 1; what = Global (process_op 0 0 65536 12) }) ≡ false
 unfolding ends_reading covers
 earlier_ends_not = refl
+
+-- completions of this page's invalidation in a step
+abbrev completed : ℕ → List DoneRow
+completed step = record { step = step; thread = 1; what = Global (process_op 0 0 65536 12) } ∷ []
+
+never_below : (n : ℕ) → n < n → ⊥
+never_below n below = omega arith
+
+false_true : true ≡ false → ⊥
+false_true e = cc
+
+-- the reading, made in step 3, is current in the step itself that completes the invalidation (IsCurrent.kept)
+current_in_step : IsCurrent (completed 5) 0 5 small_leaf
+current_in_step = record { made = omega arith; kept = (λ below. absurd (never_below 5 below), tt) }
+
+-- and not in the step after (IsCurrent.kept)
+ended_after_step : IsCurrent (completed 5) 0 6 small_leaf → ⊥
+unfolding ends_reading covers
+ended_after_step h = false_true (h.kept.0 (omega arith))
+
+-- an invalidation from before the reading does not count (IsCurrent.kept, ends_reading)
+current_past_earlier : IsCurrent (completed 2) 0 9 small_leaf
+unfolding ends_reading covers
+current_past_earlier = record { made = omega arith; kept = (λ below. refl, tt) }
+
+-- a reading is not current before it was made (IsCurrent.made)
+not_made_yet : IsCurrent [] 0 2 small_leaf → ⊥
+not_made_yet h = (let made : 3 ≤ 2 = h.made in omega (arith, made))

@@ -116,3 +116,13 @@ thirty_fills = refl
 large_fill : map (λ (f : FillRow). said f.key f.level []) (drop 6 (fresh_fills (with_words ((1122312, leaf 65536) ∷ []) tables) (ask_of 2166804 Load))) ≡ said (key_of Translation 1 1 12 2166804) 1 [] ∷ []
 unfolding place_of part_start process_start after_second after_process_entry inside in_process after_entry after_tree at_node first_denial
 large_fill = refl
+
+-- a leaf that leaves 16 bits is a page of 64 KiB (is_page_size)
+page_of_64k : Leads (with_words ((1122312, directory 16384 5) ∷ []) tables) (ask_of 2162708 Load) (Page 1114132)
+unfolding place_of part_start process_start after_second after_process_entry inside in_process after_entry after_tree at_node first_denial
+page_of_64k = leads_by (with_words ((1122312, directory 16384 5) ∷ []) tables) (ask_of 2162708 Load) (Page 1114132) refl
+
+-- a leaf that leaves 30 bits is a page of 1 GiB (is_page_size)
+page_of_1g : Leads (with_words ((16785408, leaf 0) ∷ []) largest) (ask_of 20 Load) (Page 16777236)
+unfolding place_of part_start process_start after_second after_process_entry inside in_process after_entry after_tree at_node first_denial
+page_of_1g = leads_by (with_words ((16785408, leaf 0) ∷ []) largest) (ask_of 20 Load) (Page 16777236) refl

@@ -1,7 +1,7 @@
 -- What a partition's tables refuse, by computation; each line says which definitions it exercises.
 use Rattle.std.proofs.Common.{◌≡◌, ◌+◌, ◌^◌, [], ◌∷◌, length, refl}
 use Rattle.journal_core.proofs.ExampleWalks.{rows_of, Leads, leads_by}
-use Rattle.journal_core.proofs.ExampleTables.{tables, with_words, leaf, leaf_with, directory, ask_of, problem_ask, guest_ask, largest}
+use Rattle.journal_core.proofs.ExampleTables.{tables, with_words, leaf, leaf_with, directory, ask_of, problem_ask, guest_ask}
 use Rattle.journal_core.specs.PartitionWalk.{part_start, after_entry, after_tree, at_node}
 use Rattle.journal_core.specs.Rights.{first_denial}
 use Rattle.journal_core.specs.Places.{place_of}
@@ -86,10 +86,10 @@ partition_beyond : Leads tables (guest_ask (2 ^ 63 + 2 ^ 31 + 20) Load) (Fault (
 unfolding place_of part_start process_start after_second after_process_entry inside in_process after_entry after_tree at_node first_denial
 partition_beyond = leads_by tables (guest_ask (2 ^ 63 + 2 ^ 31 + 20) Load) (Fault (HypDataStorage (2 ^ 63 + 2 ^ 31 + 20) (2 ^ 30) (2 ^ 31))) refl
 
--- a directory at level 4 of a partition's tree, in table use: bits 44 and 46 (after_tree)
-partition_level_four : Leads (with_words ((2105344, directory 2097152 9) ∷ []) largest) (ask_of 0 Load) (Fault (HypDataStorage 0 (2 ^ 19 + 2 ^ 17) 0))
+-- a directory at level 4 of a partition's tree of 52 bits, where 32 are left: bit 44 (after_tree)
+partition_level_four : Leads (with_words ((131088, 13835058055282163877 + 1048576) ∷ (1048576, directory 1052672 5) ∷ (1052672, directory 1060864 5) ∷ (1060864, directory 1064960 5) ∷ (1064960, directory 1069056 11) ∷ (1069056, leaf 0) ∷ []) tables) (guest_ask 20 Load) (Fault (HypDataStorage 20 (2 ^ 19) 0))
 unfolding place_of part_start process_start after_second after_process_entry inside in_process after_entry after_tree at_node first_denial
-partition_level_four = leads_by (with_words ((2105344, directory 2097152 9) ∷ []) largest) (ask_of 0 Load) (Fault (HypDataStorage 0 (2 ^ 19 + 2 ^ 17) 0)) refl
+partition_level_four = leads_by (with_words ((131088, 13835058055282163877 + 1048576) ∷ (1048576, directory 1052672 5) ∷ (1052672, directory 1060864 5) ∷ (1060864, directory 1064960 5) ∷ (1064960, directory 1069056 11) ∷ (1069056, leaf 0) ∷ []) tables) (guest_ask 20 Load) (Fault (HypDataStorage 20 (2 ^ 19) 0)) refl
 
 -- a directory whose table lies in an unmapped guest page: bits 33 and 46 (table_bits)
 table_missing_load : Leads (with_words ((1122312, directory 520192 9) ∷ (1057784, 0) ∷ []) tables) (ask_of 2097152 Load) (Fault (HypDataStorage 2097152 (2 ^ 30 + 2 ^ 17) 520192))
@@ -155,3 +155,13 @@ hashed_partition = leads_by (with_words ((131088, 1048586) ∷ []) tables) (gues
 no_storage : Leads (with_words ((131088, 2 ^ 63 + 2 ^ 24 + 10) ∷ []) tables) (guest_ask 65556 Load) (Stop NoStorage 16777216)
 unfolding place_of part_start process_start after_second after_process_entry inside in_process after_entry after_tree at_node first_denial
 no_storage = leads_by (with_words ((131088, 2 ^ 63 + 2 ^ 24 + 10) ∷ []) tables) (guest_ask 65556 Load) (Stop NoStorage 16777216) (refl, refl)
+
+-- a partition's root of 17 bits: bit 44 (at_node)
+partition_root_wide : Leads (with_words ((131088, 2 ^ 63 + 1048576 + 17) ∷ []) tables) (guest_ask 65556 Load) (Fault (HypDataStorage 65556 (2 ^ 19) 65536))
+unfolding place_of part_start process_start after_second after_process_entry inside in_process after_entry after_tree at_node first_denial
+partition_root_wide = leads_by (with_words ((131088, 2 ^ 63 + 1048576 + 17) ∷ []) tables) (guest_ask 65556 Load) (Fault (HypDataStorage 65556 (2 ^ 19) 65536)) refl
+
+-- a partition's tree of 55 bits, though it has a page of 1 GiB: bit 44 (after_entry)
+partition_root_unsupported : Leads (with_words ((131088, 2 ^ 63 + 2 ^ 62 + 2 ^ 61 + 1048576 + 16) ∷ (1048576, directory 1056768 9) ∷ (1056768, leaf 0) ∷ []) tables) (guest_ask 20 Load) (Fault (HypDataStorage 20 (2 ^ 19) 0))
+unfolding place_of part_start process_start after_second after_process_entry inside in_process after_entry after_tree at_node first_denial
+partition_root_unsupported = leads_by (with_words ((131088, 2 ^ 63 + 2 ^ 62 + 2 ^ 61 + 1048576 + 16) ∷ (1048576, directory 1056768 9) ∷ (1056768, leaf 0) ∷ []) tables) (guest_ask 20 Load) (Fault (HypDataStorage 20 (2 ^ 19) 0)) refl

@@ -110,30 +110,30 @@ process_order : Leads (with_words ((1130624, leaf_with 5 65536) ∷ []) tables) 
 unfolding place_of part_start process_start after_second after_process_entry inside in_process after_entry after_tree at_node first_denial
 process_order = leads_by (with_words ((1130624, leaf_with 5 65536) ∷ []) tables) (ask_of 65556 Store) (Fault (DataStorage 65556 (2 ^ 27 + 2 ^ 25))) refl
 
--- a directory whose table has 4 bits: bit 44 (at_node)
-process_unsupported_load : Leads (with_words ((1122312, directory 16384 4) ∷ []) tables) (ask_of 2097152 Load) (Fault (DataStorage 2097152 (2 ^ 19)))
+-- a directory whose table has 4 bits, though it leaves a page of 64 KiB: bit 44 (at_node)
+process_unsupported_load : Leads (with_words ((1114128, 8203) ∷ (1122304, directory 16384 4) ∷ []) tables) (ask_of 20 Load) (Fault (DataStorage 20 (2 ^ 19)))
 unfolding place_of part_start process_start after_second after_process_entry inside in_process after_entry after_tree at_node first_denial
-process_unsupported_load = leads_by (with_words ((1122312, directory 16384 4) ∷ []) tables) (ask_of 2097152 Load) (Fault (DataStorage 2097152 (2 ^ 19))) refl
+process_unsupported_load = leads_by (with_words ((1114128, 8203) ∷ (1122304, directory 16384 4) ∷ []) tables) (ask_of 20 Load) (Fault (DataStorage 20 (2 ^ 19))) refl
 
 -- the same for a store
-process_unsupported_store : Leads (with_words ((1122312, directory 16384 4) ∷ []) tables) (ask_of 2097152 Store) (Fault (DataStorage 2097152 (2 ^ 19 + 2 ^ 25)))
+process_unsupported_store : Leads (with_words ((1114128, 8203) ∷ (1122304, directory 16384 4) ∷ []) tables) (ask_of 20 Store) (Fault (DataStorage 20 (2 ^ 19 + 2 ^ 25)))
 unfolding place_of part_start process_start after_second after_process_entry inside in_process after_entry after_tree at_node first_denial
-process_unsupported_store = leads_by (with_words ((1122312, directory 16384 4) ∷ []) tables) (ask_of 2097152 Store) (Fault (DataStorage 2097152 (2 ^ 19 + 2 ^ 25))) refl
+process_unsupported_store = leads_by (with_words ((1114128, 8203) ∷ (1122304, directory 16384 4) ∷ []) tables) (ask_of 20 Store) (Fault (DataStorage 20 (2 ^ 19 + 2 ^ 25))) refl
 
 -- the same for a fetch
-process_unsupported_fetch : Leads (with_words ((1122312, directory 16384 4) ∷ []) tables) (ask_of 2097152 Fetch) (Fault (InstStorage (2 ^ 19)))
+process_unsupported_fetch : Leads (with_words ((1114128, 8203) ∷ (1122304, directory 16384 4) ∷ []) tables) (ask_of 20 Fetch) (Fault (InstStorage (2 ^ 19)))
 unfolding place_of part_start process_start after_second after_process_entry inside in_process after_entry after_tree at_node first_denial
-process_unsupported_fetch = leads_by (with_words ((1122312, directory 16384 4) ∷ []) tables) (ask_of 2097152 Fetch) (Fault (InstStorage (2 ^ 19))) refl
+process_unsupported_fetch = leads_by (with_words ((1114128, 8203) ∷ (1122304, directory 16384 4) ∷ []) tables) (ask_of 20 Fetch) (Fault (InstStorage (2 ^ 19))) refl
 
--- a process's tree of 55 bits (after_process_entry)
-process_root_unsupported : Leads (with_words ((1114128, 2 ^ 62 + 2 ^ 61 + 8202) ∷ []) tables) (ask_of 65556 Load) (Fault (DataStorage 65556 (2 ^ 19)))
+-- a process's tree of 55 bits, though it has a page of 1 GiB: bit 44 (after_process_entry)
+process_root_unsupported : Leads (with_words ((1114128, 2 ^ 62 + 2 ^ 61 + 8192 + 16) ∷ (1122304, directory 16384 9) ∷ []) tables) (ask_of 20 Load) (Fault (DataStorage 20 (2 ^ 19)))
 unfolding place_of part_start process_start after_second after_process_entry inside in_process after_entry after_tree at_node first_denial
-process_root_unsupported = leads_by (with_words ((1114128, 2 ^ 62 + 2 ^ 61 + 8202) ∷ []) tables) (ask_of 65556 Load) (Fault (DataStorage 65556 (2 ^ 19))) refl
+process_root_unsupported = leads_by (with_words ((1114128, 2 ^ 62 + 2 ^ 61 + 8192 + 16) ∷ (1122304, directory 16384 9) ∷ []) tables) (ask_of 20 Load) (Fault (DataStorage 20 (2 ^ 19))) refl
 
--- a directory at level 4 names no table (after_tree)
-process_level_four : Leads (with_words ((16793600, directory 1099511627776 9) ∷ []) largest) (ask_of 0 Load) (Fault (DataStorage 0 (2 ^ 19)))
+-- a tree of 52 bits with tables of 5 bits: a directory at level 4 names no table, though 32 bits are left (after_tree)
+process_level_four : Leads (with_words ((1114128, 4611686018427388069 + 8192) ∷ (1122304, directory 12288 5) ∷ (1126400, directory 16384 5) ∷ (1130496, directory 20480 5) ∷ (1134592, directory 24576 11) ∷ (1138688, leaf 0) ∷ []) tables) (ask_of 20 Load) (Fault (DataStorage 20 (2 ^ 19)))
 unfolding place_of part_start process_start after_second after_process_entry inside in_process after_entry after_tree at_node first_denial
-process_level_four = leads_by (with_words ((16793600, directory 1099511627776 9) ∷ []) largest) (ask_of 0 Load) (Fault (DataStorage 0 (2 ^ 19))) refl
+process_level_four = leads_by (with_words ((1114128, 4611686018427388069 + 8192) ∷ (1122304, directory 12288 5) ∷ (1126400, directory 16384 5) ∷ (1130496, directory 20480 5) ∷ (1134592, directory 24576 11) ∷ (1138688, leaf 0) ∷ []) tables) (ask_of 20 Load) (Fault (DataStorage 20 (2 ^ 19))) refl
 
 -- a leaf at level 1 of this tree leaves 39 bits, and no page has them: bit 44 (is_page_size)
 process_odd_page : Leads (with_words ((16781312, leaf 0) ∷ []) largest) (ask_of 0 Load) (Fault (DataStorage 0 (2 ^ 19)))
@@ -144,3 +144,18 @@ process_odd_page = leads_by (with_words ((16781312, leaf 0) ∷ []) largest) (as
 process_table_short : Leads tables (record (ask_of 65556 Load) { pid = 256 }) (Fault (DataStorage 65556 (2 ^ 30)))
 unfolding place_of part_start process_start after_second after_process_entry inside in_process after_entry after_tree at_node first_denial
 process_table_short = leads_by tables (record (ask_of 65556 Load) { pid = 256 }) (Fault (DataStorage 65556 (2 ^ 30))) refl
+
+-- a directory whose table has 10 bits where 21 are left, so that it leaves fewer than 12: bit 44, and its entry is not read (at_node)
+process_table_large : Leads (with_words ((1122312, directory 16384 10) ∷ (1130496, 0) ∷ []) tables) (ask_of 2097152 Load) (Fault (DataStorage 2097152 (2 ^ 19)))
+unfolding place_of part_start process_start after_second after_process_entry inside in_process after_entry after_tree at_node first_denial
+process_table_large = leads_by (with_words ((1122312, directory 16384 10) ∷ (1130496, 0) ∷ []) tables) (ask_of 2097152 Load) (Fault (DataStorage 2097152 (2 ^ 19))) refl
+
+-- of the second and third bit of the authority either one permits a load: here the third alone (first_denial)
+process_read_or_write : Leads (with_words ((1130624, leaf_with 386 65536) ∷ []) tables) (ask_of 65556 Load) (Page 1179668)
+unfolding place_of part_start process_start after_second after_process_entry inside in_process after_entry after_tree at_node first_denial
+process_read_or_write = leads_by (with_words ((1130624, leaf_with 386 65536) ∷ []) tables) (ask_of 65556 Load) (Page 1179668) refl
+
+-- here the second alone (first_denial)
+process_read_alone : Leads (with_words ((1130624, leaf_with 388 65536) ∷ []) tables) (ask_of 65556 Load) (Page 1179668)
+unfolding place_of part_start process_start after_second after_process_entry inside in_process after_entry after_tree at_node first_denial
+process_read_alone = leads_by (with_words ((1130624, leaf_with 388 65536) ∷ []) tables) (ask_of 65556 Load) (Page 1179668) refl

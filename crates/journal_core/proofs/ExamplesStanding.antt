@@ -82,10 +82,10 @@ before_fifth = stands four_later 0 0 9 4 0 (fill 0 (page 16)) refl refl refl (om
 -- a fill of another thread, another kind or another set pushes nothing out (is_same_set)
 abbrev others_later : List FillRow
 others_later =
-    fill 0 (page 16) ∷ fill 0 (page 32) ∷ fill 0 (page 48) ∷ fill 0 (page 64) ∷ fill 1 (page 80) ∷ fill 0 (page 81)
+    fill 0 (page 16) ∷ fill 0 (page 32) ∷ fill 0 (page 48) ∷ fill 0 (page 64) ∷ fill 1 (page 80) ∷ fill 0 (page 81) ∷ fill 0 (page 24)
     ∷ fill 0 (record { kind = GuestPage; lpid = 1; pid = 0; left = 12; page = 96 }) ∷ []
 
-after_others : count_by (is_same_set (fill 0 (page 16))) (drop 1 (take 7 others_later)) ≡ 3
+after_others : count_by (is_same_set (fill 0 (page 16))) (drop 1 (take 8 others_later)) ≡ 3
 after_others = refl
 
 -- Fills 0 and 1 have one key, and four later ones of its set push fill 1 out: fill 0 does not stand again (IsStanding.last).

@@ -1,16 +1,15 @@
 -- Addresses of one page of 4 KiB lead the same way through each table.
-use Rattle.std.proofs.Common.{◌≡◌, ℕ, ◌+◌, ◌-◌, ◌*◌, ◌/◌, ◌%◌, ◌^◌, ◌<◌, ◌≤◌, nat_le, nat_lt, Bool, true, false, arith, ap, sym, ◌∙◌, refl, inl, inr, ◌==◌, ◌&&◌, ◌||◌}
+use Rattle.std.proofs.Common.{◌≡◌, ℕ, ◌+◌, ◌-◌, ◌*◌, ◌/◌, ◌%◌, ◌^◌, ◌<◌, ◌≤◌, nat_le, nat_lt, Bool, true, false, arith, ap, sym, ◌∙◌, refl, inl, inr, ◌==◌, ◌&&◌}
 use Rattle.std.specs.Prelude.{if◌then◌else◌}
 use Rattle.std.proofs.lemmas.Bool.{cases_lt}
 use Rattle.std.proofs.lemmas.Bool.Decides.{nat_tests}
 use Rattle.std.proofs.lemmas.Nat.{pow-add, mod-pow-add, le-div, div-mul-add}
-use Rattle.std.proofs.Math.Nat.{div-div-eq-div-mul, div-eq_of_lt, mod-lt}
+use Rattle.std.proofs.Math.Nat.{div-div-eq-div-mul, div-eq_of_lt}
 use Rattle.std.proofs.lemmas.Nat.{pow_pos}
 use Rattle.journal_core.specs.Rights.{bits}
 use Rattle.journal_core.specs.PartitionWalk.{SameOver, entry_at, real_in, root_bits, node_of, at_node, leaf_of, is_page_size, is_leaf, has_entry, entry_place, part_start, after_entry, after_tree}
 use Rattle.journal_core.specs.declared.rows.StopName.TheVariants.{HashedPartition}
 use Rattle.journal_core.specs.declared.walks.FaultKind.TheVariants.{Missing, Unsupported}
-use Rattle.journal_core.specs.declared.walks.PartResult.{PartResult}
 use Rattle.journal_core.specs.declared.walks.PartResult.TheVariants.{Leaf, Fault, Stop}
 use Rattle.journal_core.specs.declared.walks.Node.{Node}
 use Rattle.journal_core.specs.declared.walks.PartStage.{PartStage}

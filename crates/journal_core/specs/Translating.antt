@@ -1,13 +1,24 @@
 -- What a translation is given, and what it leaves.
-use Rattle.std.specs.Prelude.{◌≡◌, ℕ, ◌+◌, ◌≤◌, ◌<◌, List, [], ◌∷◌, ◌++◌, length, slice_get, Option, Some}
+use Rattle.std.specs.Prelude.{◌≡◌, ℕ, ◌≤◌, ◌<◌, List, [], ◌∷◌, ◌++◌, length, slice_get, Contains, Option}
 use Rattle.std.specs.List.{AllByRecursion}
 use Rattle.journal_core.specs.declared.rows.ReadRow.{ReadRow}
 use Rattle.journal_core.specs.declared.rows.FillRow.{FillRow}
 use Rattle.journal_core.specs.declared.rows.Done.{Done}
 use Rattle.journal_core.specs.declared.rows.Done.TheVariants.{Global, Local, Ptcr}
 use Rattle.journal_core.specs.declared.rows.DoneRow.{DoneRow}
+use Rattle.journal_core.specs.declared.rows.KeyKind.{KeyKind}
+use Rattle.journal_core.specs.declared.rows.KeyKind.TheVariants.{Translation, GuestPage, ProcessDir, PartDir}
+use Rattle.journal_core.specs.declared.asks.Ask.{Ask}
+use Rattle.journal_core.specs.declared.walks.NestResult.TheVariants.{Page}
+use Rattle.journal_core.specs.declared.walks.Stage.TheVariants.{Over}
+use Rattle.journal_core.specs.declared.walks.TrailItem.{TrailItem}
 use Rattle.journal_core.specs.Rows.{Rows, Shown}
-use Rattle.journal_core.specs.Readings.{IsTrueReading}
+use Rattle.journal_core.specs.Places.{place_of}
+use Rattle.journal_core.specs.Walk.{stage_after, task_of, start_of, denial_of}
+use Rattle.journal_core.specs.Standing.{IsStanding, IsFor, key_of}
+use Rattle.journal_core.specs.Resumed.{readings}
+use Rattle.journal_core.specs.Fills.{fills_of}
+use Rattle.journal_core.specs.Readings.{Follows, IsTrueReading}
 use Rattle.journal_core.specs.Choice.{Reached}
 
 -- no operation was completed in the step that is being made
@@ -67,3 +78,34 @@ values_after Ptcr t values new = AreEqualBut t values new
 
 abbrev pub ReachesValues : DoneRow → List ℕ → List ℕ → Type 0
 ReachesValues row values new = values_after row.what row.thread values new
+
+abbrev pub IsDirectoryKind : KeyKind → Type 0
+IsDirectoryKind Translation = ⊥
+IsDirectoryKind GuestPage = ⊥
+IsDirectoryKind ProcessDir = Unit {0}
+IsDirectoryKind PartDir = Unit {0}
+
+-- a fill is one that a finished walk of some ask adds, which ended in a page under this value of PTCR
+pub record IsFillOfWalk (rows : Rows) (ptcr : ℕ) (f : FillRow) : Type 0 where
+  pub ask : Ask
+  pub same_ptcr : ask.ptcr ≡ ptcr
+  pub items : List TrailItem
+  pub from : ℕ
+  pub real : ℕ
+  pub follows : Follows (task_of (denial_of ask) ask) (start_of (denial_of ask) ask) (readings rows.reads items)
+  pub leads : stage_after (task_of (denial_of ask) ask) (start_of (denial_of ask) ask) (readings rows.reads items) ≡ Over (Page real)
+  pub is_one : Contains (fills_of f.thread f.moment (place_of ask) rows.reads from items) f
+
+-- fill i is a directory of this kind that stands now for the thread and the address, and was made by a finished walk
+pub record IsKeptDirectory (j : Shown) (t ptcr : ℕ) (kind : KeyKind) (lpid pid sought i : ℕ) : Type 0 where
+  pub fill : FillRow
+  pub standing : IsStanding j.rows j.floor t (length j.rows.steps) (length j.rows.fills) i fill
+  pub for_it : IsFor kind lpid pid sought fill
+  pub of_walk : IsFillOfWalk j.rows ptcr fill
+
+-- fill i is the guest page that stands now for the thread and the guest real address, and was made by a finished walk
+pub record IsKeptPage (j : Shown) (t ptcr lpid gra i : ℕ) : Type 0 where
+  pub fill : FillRow
+  pub standing : IsStanding j.rows j.floor t (length j.rows.steps) (length j.rows.fills) i fill
+  pub of_key : fill.key ≡ key_of GuestPage lpid 0 12 gra
+  pub of_walk : IsFillOfWalk j.rows ptcr fill

@@ -1,6 +1,7 @@
 ghost use Rattle.std.specs.Prelude.{◌≡◌};
 
 use super::*;
+use std::mem::size_of;
 use std::test::Fail;
 
 /// A read of a doubleword by the step that is being made.
@@ -122,5 +123,17 @@ fn a_step_row_takes_the_last_place(rt: HostRuntime) -> Result<(), Fail> {
     );
     assert_eq!(rt; journal.counts().steps, 1);
     assert_eq!(rt; journal.room(), Some((RowKind::Steps, 1)));
+    Ok(())
+}
+
+/// What a journal for the most steps takes stays below 400 MB only with rows of at most these sizes.
+#[test]
+fn no_row_takes_more_bytes_than_its_list_may(rt: HostRuntime) -> Result<(), Fail> {
+    assert!(rt; size_of::<ReadRow>() <= 48);
+    assert!(rt; size_of::<FillRow>() <= 192);
+    assert!(rt; size_of::<WriteRow>() <= 40);
+    assert!(rt; size_of::<DoneRow>() <= 64);
+    assert!(rt; size_of::<DeviceRow>() <= 48);
+    assert!(rt; size_of::<StepRow>() <= 128);
     Ok(())
 }

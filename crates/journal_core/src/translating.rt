@@ -1,15 +1,16 @@
 //! Reading tables and translating addresses, as a step uses them.
 
-ghost use Rattle.std.specs.Prelude.{◌≡◌, ℕ, ◌+◌, ◌≤◌, ◌↔◌, List, length, slice_get, Option, Some};
+ghost use Rattle.std.specs.Prelude.{◌≡◌, ℕ, ◌+◌, ◌≤◌, ◌↔◌, List, length, slice_get, Option, Some, None};
+ghost use Rattle.journal_core.specs.declared.rows.KeyKind.{KeyKind};
 ghost use Rattle.journal_core.specs.Past.{word_in};
 ghost use Rattle.journal_core.specs.Rows.{Shown};
 ghost use Rattle.journal_core.specs.Room.{read_places, fill_places};
 ghost use Rattle.journal_core.specs.Answers.{IsAnswer};
-ghost use Rattle.journal_core.specs.Translating.{IsQuiet, AreTrue, reached_of, OnlyAdds, IsLastDone, without_done, SameKept, ReachesValues};
+ghost use Rattle.journal_core.specs.Translating.{IsQuiet, AreTrue, reached_of, OnlyAdds, IsLastDone, without_done, SameKept, ReachesValues, IsDirectoryKind, IsKeptDirectory, IsKeptPage};
 
 use crate::asks::{Ask, Found};
 use crate::journal::Journal;
-use crate::rows::DoneRow;
+use crate::rows::{DoneRow, KeyKind};
 
 /// Storage that tables are read from.
 pub trait TableReader {
@@ -61,4 +62,82 @@ pub trait Translate {
 
     /// Rows of writes, devices and steps keep it fitting.
     ghost stays: { (s : Self) (j k : Shown) (values : List ℕ) → SameKept j k → fits s j values → fits s k values };
+}
+
+/// What keeps walks, and gives them by the numbers of their fills.
+pub trait Kept {
+    /// It is one for this thread.
+    ghost is_for: { Self → ℕ → Type 0 };
+
+    /// It fits a journal, for a thread with this value of the partition table control register.
+    ghost fits: { Self → Shown → ℕ → ℕ → Type 0 };
+
+    /// The directory that it gives for a thread, a kind, a partition, a process and an address.
+    ghost directory_of: { Self → Shown → ℕ → KeyKind → ℕ → ℕ → ℕ → Option ℕ };
+
+    /// The guest page that it gives for a thread, a partition and a guest real address.
+    ghost page_of: { Self → Shown → ℕ → ℕ → ℕ → Option ℕ };
+
+    /// A directory of a process's or of a partition's tree that stands for an address, or none.
+    fn directory(
+        &self,
+        journal: &Journal,
+        thread: u8,
+        kind: KeyKind,
+        lpid: u16,
+        pid: u32,
+        sought: u64,
+    ) -> Option<u32>
+        requires kind { IsDirectoryKind kind }
+        requires thread { is_for self.now thread }
+        requires quiet { IsQuiet journal.now.rows }
+        requires fits { (ptcr : ℕ) × fits self.now journal.now thread ptcr }
+        ensures { result ≡ directory_of self.now journal.now thread kind lpid pid sought };
+
+    /// A guest page that stands for a guest real address, or none.
+    fn guest_page(&self, journal: &Journal, thread: u8, lpid: u16, gra: u64) -> Option<u32>
+        requires thread { is_for self.now thread }
+        requires quiet { IsQuiet journal.now.rows }
+        requires fits { (ptcr : ℕ) × fits self.now journal.now thread ptcr }
+        ensures { result ≡ page_of self.now journal.now thread lpid gra };
+
+    /// A directory that it gives stands, is for the address, and was made by a finished walk under this value.
+    ghost directory_stands: { (s : Self) (j : Shown) (t ptcr : ℕ) (kind : KeyKind) (lpid pid sought i : ℕ) → IsDirectoryKind kind → is_for s t → IsQuiet j.rows → fits s j t ptcr → directory_of s j t kind lpid pid sought ≡ Some i → IsKeptDirectory j t ptcr kind lpid pid sought i };
+
+    /// So does a guest page.
+    ghost page_stands: { (s : Self) (j : Shown) (t ptcr lpid gra i : ℕ) → is_for s t → IsQuiet j.rows → fits s j t ptcr → page_of s j t lpid gra ≡ Some i → IsKeptPage j t ptcr lpid gra i };
+}
+
+/// Keeps nothing, for every thread and beside every journal.
+#[derive(Clone, Copy, Debug)]
+pub struct NothingKept;
+
+impl Kept for NothingKept {
+    ghost is_for = { λ s t. Unit {0} };
+
+    ghost fits = { λ s j t ptcr. Unit {0} };
+
+    ghost directory_of = { λ s j t kind lpid pid sought. None };
+
+    ghost page_of = { λ s j t lpid gra. None };
+
+    fn directory(
+        &self,
+        _journal: &Journal,
+        _thread: u8,
+        _kind: KeyKind,
+        _lpid: u16,
+        _pid: u32,
+        _sought: u64,
+    ) -> Option<u32> {
+        None
+    }
+
+    fn guest_page(&self, _journal: &Journal, _thread: u8, _lpid: u16, _gra: u64) -> Option<u32> {
+        None
+    }
+
+    ghost directory_stands = { λ s j t ptcr kind lpid pid sought i of_kind thread quiet fits is. Prim.cc };
+
+    ghost page_stands = { λ s j t ptcr lpid gra i thread quiet fits is. Prim.cc };
 }
