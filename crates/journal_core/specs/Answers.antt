@@ -1,10 +1,11 @@
 -- Which answers of a translation keep the rule of a step, and which uses, reads and fills its row then has. A journal of any
 -- lawful translator keeps this; which of the lawful answers the machine gives is its choice.
-use Rattle.std.specs.Prelude.{◌≡◌, ℕ, ◌+◌, ◌≤◌, ◌<◌, List, [], ◌∷◌, length, slice_get, Contains, Option, Some}
+use Rattle.std.specs.Prelude.{◌≡◌, ℕ, ◌+◌, ◌≤◌, ◌<◌, List, [], ◌∷◌, length, slice_get, Contains, Option, Some, ◌⊎◌}
 use Rattle.std.specs.List.{AllByRecursion}
 use Rattle.journal_core.specs.declared.rows.ReadRow.{ReadRow}
 use Rattle.journal_core.specs.declared.rows.FillRow.{FillRow}
 use Rattle.journal_core.specs.declared.rows.StopName.{StopName}
+use Rattle.journal_core.specs.declared.rows.StopName.TheVariants.{NoTranslation}
 use Rattle.journal_core.specs.declared.rows.Use.{Use}
 use Rattle.journal_core.specs.declared.rows.Use.TheVariants.{Unused, Real as RealUse, Hit, Walked, Faulted}
 use Rattle.journal_core.specs.declared.causes.Cause.{Cause}
@@ -81,6 +82,13 @@ pub record IsStop (past : ℕ → ℕ → Option ℕ) (n : ℕ) (before after : 
   pub fresh : Fresh (past n) n ask readings (WalkStop name value)
   pub same : SameReached before after
 
+-- Until walks of tables come, an ask that is to be translated may be answered by this stop, which then counts as the outcome of
+-- the fresh walk. Nothing is added.
+pub record IsUntranslated (before after : Reached) (name : StopName) (value : ℕ) : Type 0 where
+  pub named : name ≡ NoTranslation
+  pub nothing : value ≡ 0
+  pub same : SameReached before after
+
 -- An answer for an ask of thread t at n keeps the rule, from so many fills and reads on. A fault or a stop is the outcome of
 -- the fresh walk (`cause`).
 abbrev pub IsAnswer : (ℕ → ℕ → Option ℕ) → Rows → ℕ → ℕ → Reached → Ask → Found → Reached → Type 0
@@ -94,7 +102,7 @@ IsAnswer past rows t n before ask (Fault cause Unused) after = ⊥
 IsAnswer past rows t n before ask (Fault cause (RealUse b)) after = ⊥
 IsAnswer past rows t n before ask (Fault cause (Hit i b)) after = ⊥
 IsAnswer past rows t n before ask (Fault cause (Walked i b)) after = ⊥
-IsAnswer past rows t n before ask (Stop name value) after = IsTranslated ask × IsStop past n before after ask name value
+IsAnswer past rows t n before ask (Stop name value) after = IsTranslated ask × (IsStop past n before after ask name value ⊎ IsUntranslated before after name value)
 
 -- the answers for a step's asks, in their order, each from where the one before it left off
 abbrev pub AreAnswers : (ℕ → ℕ → Option ℕ) → Rows → ℕ → ℕ → Reached → List Ask → List Found → Reached → Type 0

@@ -62,6 +62,9 @@ pub trait Translate {
 
     /// Rows of writes, devices and steps keep it fitting.
     ghost stays: { (s : Self) (j k : Shown) (values : List ℕ) → SameKept j k → fits s j values → fits s k values };
+
+    /// Until invalidations come, it fits with any values where it fits with some.
+    ghost any_values: { (s : Self) (j : Shown) (values new : List ℕ) → length new ≡ length values → fits s j values → fits s j new };
 }
 
 /// What keeps walks, and gives them by the numbers of their fills.
