@@ -44,7 +44,7 @@ LikeGoal ForResult ForResult g0 g = SameOver 12 g0 g
 LikeGoal ForGuest ForGuest g0 g = SameOver 12 g0 g
 LikeGoal _ _ g0 g = ⊥
 
-abbrev NoPage : NestResult → Type 0
+abbrev pub NoPage : NestResult → Type 0
 NoPage (Page real) = ⊥
 NoPage (Fault cause) = Unit {0}
 NoPage (Stop name value) = Unit {0}
@@ -173,14 +173,14 @@ like_next k0 k (ProcessEntry a) (Over o) v alike h = like_bad (next k0 (ProcessE
 like_next k0 k (ProcessTable n0 a) (Over o) v alike h = like_bad (next k0 (ProcessTable n0 a) v) o h
 like_next k0 k _ _ v alike h = absurd h
 
-over_stays : (k : Task) (o : NestResult) (rs : List ReadRow) → stage_after k (Over o) rs ≡ Over o
+pub over_stays : (k : Task) (o : NestResult) (rs : List ReadRow) → stage_after k (Over o) rs ≡ Over o
 over_stays k o [] = refl
 over_stays k o (r ∷ rs) = over_stays k o rs
 
-over_same : (o p : NestResult) → Over o ≡ Over p → o ≡ p
+pub over_same : (o p : NestResult) → Over o ≡ Over p → o ≡ p
 over_same o p e = cc
 
-no_way : (k : Task) (o : NestResult) (rs : List ReadRow) (real : ℕ) → NoPage o → stage_after k (Over o) rs ≡ Over (Page real) → ⊥
+pub no_way : (k : Task) (o : NestResult) (rs : List ReadRow) (real : ℕ) → NoPage o → stage_after k (Over o) rs ≡ Over (Page real) → ⊥
 no_way k o rs real none leads = subst NoPage (over_same o (Page real) (sym (over_stays k o rs) ∙ leads)) none
 
 sought_root : (r : ReadRow) (a b : ℕ) → r.left ≡ root_bits r.value → SameOver 12 a b → SameOver r.left r.sought a → SameOver r.left r.sought b

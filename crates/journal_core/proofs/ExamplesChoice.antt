@@ -36,25 +36,25 @@ use Rattle.journal_core.specs.declared.walks.Stage.TheVariants.{SecondWord, Part
 use Rattle.journal_core.specs.declared.walks.TrailItem.{TrailItem}
 use Rattle.journal_core.specs.declared.walks.TrailItem.TheVariants.{New, Old}
 
-abbrev fetch : Ask
+abbrev pub fetch : Ask
 fetch = ask_of 20480 Fetch
 
-abbrev reads : List ReadRow
+abbrev pub reads : List ReadRow
 reads = rows_of tables fetch
 
 -- the journal after this fetch in step 7: its sixteen readings and its nine fills
-abbrev rows : Rows
+abbrev pub rows : Rows
 rows = record no_rows { reads = reads; fills = fills_of 0 7 (place_of fetch) [] 0 (map New reads) }
 
 -- before it nothing stands
 abbrev known : Known
 known = record { reads = reads; fills = rows.fills; directory = λ kind lpid pid sought. None; page = λ lpid gra. None }
 
-none_below : (j : ℕ) → j < 0 → ⊥
+pub none_below : (j : ℕ) → j < 0 → ⊥
 none_below j below = omega arith
 
 knows_nothing : KnowsStanding rows 0 0 7 0 known
-knows_nothing = record { reads = refl; fills = refl; directories = λ kind lpid pid sought j g s for. none_below j s.below; pages = λ lpid gra j g s same. none_below j s.below }
+knows_nothing = record { reads = refl; fills = refl; directories = λ kind lpid pid sought of_kind j g s for. none_below j s.below; pages = λ lpid gra j g s same. none_below j s.below }
 
 none_permits : NonePermits rows 0 0 7 0 fetch
 none_permits i real hit = none_below i hit.standing.below
@@ -86,7 +86,7 @@ trace_resumes k (suc m) s out ends = by (word_next tables s) refl (λ v. trace_r
           (rest v (subst (λ x. EndsAt tables (stage_after k (next k s x) (trace tables k 7 m (next k s v))) out) (sym (row_value k 7 s v)) ends)),
     )
 
-is_space : IsTranslated fetch
+pub is_space : IsTranslated fetch
 unfolding place_of part_start process_start after_second after_process_entry inside in_process after_entry after_tree at_node first_denial
 is_space a e = cc
 
@@ -108,10 +108,10 @@ first_fetch = (
 )
 
 -- a fetch of the same page in step 8
-abbrev again : Ask
+abbrev pub again : Ask
 again = ask_of 20484 Fetch
 
-abbrev own_fill : FillRow
+abbrev pub own_fill : FillRow
 own_fill = fill_of 0 7 (key_of Translation 1 1 12 20480) 2 (0 ∷ 1 ∷ 2 ∷ 3 ∷ 4 ∷ 5 ∷ 6 ∷ 7 ∷ 8 ∷ 9 ∷ 10 ∷ 11 ∷ 12 ∷ 13 ∷ 14 ∷ 15 ∷ [])
 
 none_between : (j : ℕ) → 8 < j → j < 9 → ⊥
@@ -132,7 +132,7 @@ own_stands =
       current = all_current tables (task fetch) 7 36 0 8 (start fetch) [] (omega arith) tt;
     }
 
-again_is_space : IsTranslated again
+pub again_is_space : IsTranslated again
 unfolding place_of part_start process_start after_second after_process_entry inside in_process after_entry after_tree at_node first_denial
 again_is_space a e = cc
 
@@ -148,7 +148,7 @@ unfolding place_of
 of_this_key = record { first = fetch; of_key = refl; of_table = refl; follows = trace_follows tables (task fetch) 7 36 (start fetch) }
 
 -- before any step nothing is kept
-abbrev none_yet : Reached
+abbrev pub none_yet : Reached
 none_yet = record { fills = 0; reads = 0 }
 
 -- a load in hypervisor state without relocation is a real address, and is used as it is (Choice)
@@ -157,14 +157,14 @@ unfolding place_of
 real_load = (refl, refl, (refl, refl))
 
 -- a load in no segment ends in a fault with no reading, and adds no row (Choice, ChoseFault, NoneResumes)
-abbrev away : Ask
+abbrev pub away : Ask
 away = ask_of (2 ^ 62) Load
 
 abbrev nothing_known : Known
 nothing_known = record { reads = []; fills = []; directory = λ kind lpid pid sought. None; page = λ lpid gra. None }
 
 nothing_known_stands : KnowsStanding no_rows 0 0 7 0 nothing_known
-nothing_known_stands = record { reads = refl; fills = refl; directories = λ kind lpid pid sought j g s for. none_below j s.below; pages = λ lpid gra j g s same. none_below j s.below }
+nothing_known_stands = record { reads = refl; fills = refl; directories = λ kind lpid pid sought of_kind j g s for. none_below j s.below; pages = λ lpid gra j g s same. none_below j s.below }
 
 no_page : (items : List TrailItem) (real : ℕ) → Resumed tables 7 nothing_known away items (Page real) → ⊥
 unfolding place_of
@@ -175,7 +175,7 @@ no_page [] real h = different h.1
 no_page (New r ∷ items) real h = h.1
 no_page (Old i ∷ items) real h = h.4
 
-is_no_place : IsTranslated away
+pub is_no_place : IsTranslated away
 unfolding place_of
 is_no_place a e = cc
 
@@ -202,10 +202,10 @@ away_load = (
 
 -- where storage has no word, a load stops the machine at the first one that it wants, and adds no row (Choice, ChoseStop,
 -- IsGap)
-abbrev lost : Ask
+abbrev pub lost : Ask
 lost = ask_of 20480 Load
 
-abbrev no_word : ℕ → Option ℕ
+abbrev pub no_word : ℕ → Option ℕ
 no_word at = None
 
 no_word_page : (items : List TrailItem) (real : ℕ) → Resumed no_word 7 nothing_known lost items (Page real) → ⊥
@@ -223,7 +223,7 @@ no_word_page (Old i ∷ items) real h = different h.2
     different : [] ≡ i ∷ h.0 → ⊥
     different e = cc
 
-is_no_real : IsTranslated lost
+pub is_no_real : IsTranslated lost
 unfolding place_of
 is_no_real a e = cc
 

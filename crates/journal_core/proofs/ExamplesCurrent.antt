@@ -5,6 +5,7 @@ use Rattle.std.specs.List.{AllByRecursion}
 use Rattle.journal_core.proofs.ExampleWalks.{trace, word_next, row_at, task, start, rows_of, Leads, leads_by, trace_follows}
 use Rattle.journal_core.proofs.ExampleTables.{tables, with_words, leaf, ask_of}
 use Rattle.journal_core.proofs.CurrentLemmas.{current_with_later}
+use Rattle.journal_core.proofs.FreedWalks.{permitted_walks}
 use Rattle.journal_core.specs.PartitionWalk.{part_start, after_entry, after_tree, at_node}
 use Rattle.journal_core.specs.Rights.{first_denial}
 use Rattle.journal_core.specs.Places.{place_of}
@@ -80,7 +81,7 @@ all_current word k n (suc m) t later s dones above from = by (word_next word s) 
 changed_leaf : IsAdmitted past [] 0 9 load (rows_of tables load) 1179668
 unfolding place_of part_start process_start after_second after_process_entry inside in_process after_entry after_tree at_node first_denial
 changed_leaf =
-    record { true_readings = all_true tables (task load) 7 36 (start load) (λ at. refl); current = all_current tables (task load) 7 36 0 9 (start load) [] (omega arith) tt; follows = trace_follows tables (task load) 7 36 (start load); leads = refl }
+    record { true_readings = all_true tables (task load) 7 36 (start load) (λ at. refl); current = all_current tables (task load) 7 36 0 9 (start load) [] (omega arith) tt; walks = permitted_walks load (rows_of tables load) 1179668 (trace_follows tables (task load) 7 36 (start load)) refl; right = refl }
 
 -- a walk made anew gives the new page (Fresh)
 changed_walk : Leads changed load (Page 1183764)

@@ -1,12 +1,13 @@
 -- Walks that end in pages, and their fills, by computation; each line says which definitions it exercises.
-use Rattle.std.proofs.Common.{◌≡◌, ℕ, ◌+◌, ◌^◌, List, [], ◌∷◌, length, map, refl, Option}
-use Rattle.std.specs.Prelude.{drop}
+use Rattle.std.proofs.Common.{◌≡◌, ℕ, ◌+◌, ◌^◌, List, [], ◌∷◌, length, map, refl, Option, None, true}
+use Rattle.std.specs.Prelude.{drop, take, if◌then◌else◌, ◌==◌}
 use Rattle.journal_core.proofs.ExampleWalks.{rows_of, Leads, leads_by}
 use Rattle.journal_core.proofs.ExampleTables.{tables, with_words, leaf, directory, ask_of, guest_ask, largest}
-use Rattle.journal_core.specs.PartitionWalk.{part_start, after_entry, after_tree, at_node}
+use Rattle.journal_core.specs.PartitionWalk.{part_start, after_entry, after_tree, at_node, PartitionWalk}
 use Rattle.journal_core.specs.Rights.{first_denial}
 use Rattle.journal_core.specs.Places.{place_of}
 use Rattle.journal_core.specs.Walk.{inside, in_process, after_second, after_process_entry, process_start}
+use Rattle.journal_core.specs.Readings.{FreshPartitionWalk}
 use Rattle.journal_core.specs.Standing.{key_of, fill_reads}
 use Rattle.journal_core.specs.Fills.{fills_of}
 use Rattle.journal_core.specs.declared.rows.Key.{Key}
@@ -14,6 +15,8 @@ use Rattle.journal_core.specs.declared.rows.KeyKind.TheVariants.{Translation, Gu
 use Rattle.journal_core.specs.declared.rows.FillRow.{FillRow}
 use Rattle.journal_core.specs.declared.asks.Ask.{Ask}
 use Rattle.journal_core.specs.declared.asks.AccessKind.TheVariants.{Load, Store, Fetch}
+use Rattle.journal_core.specs.declared.rows.StopName.TheVariants.{NoStorage}
+use Rattle.journal_core.specs.declared.walks.PartResult.TheVariants.{Leaf, Stop}
 use Rattle.journal_core.specs.declared.walks.NestResult.TheVariants.{Page}
 use Rattle.journal_core.specs.declared.walks.TrailItem.TheVariants.{New}
 
@@ -46,6 +49,36 @@ guest_page = leads_by tables (guest_ask (2 ^ 63 + 65556) Load) (Page 1179668) re
 guest_page_readings : length (rows_of tables (guest_ask 65556 Load)) ≡ 3
 unfolding place_of part_start process_start after_second after_process_entry inside in_process after_entry after_tree at_node first_denial
 guest_page_readings = refl
+
+-- they are a walk of the partition's tree too, which ends at the leaf of guest page 16 (PartitionWalk, PartFollows)
+guest_page_walk : PartitionWalk tables 131072 1 65556 (rows_of tables (guest_ask 65556 Load)) (Leaf 1179648 12 0 7 true true)
+unfolding place_of part_start process_start after_second after_process_entry inside in_process after_entry after_tree at_node first_denial
+guest_page_walk = record {
+  follows = (
+    record { same_role = refl; same_lpid = refl; same_pid = refl; same_sought = refl; same_level = refl; same_left = refl; same_at = refl },
+    (record { same_role = refl; same_lpid = refl; same_pid = refl; same_sought = refl; same_level = refl; same_left = refl; same_at = refl }, (record { same_role = refl; same_lpid = refl; same_pid = refl; same_sought = refl; same_level = refl; same_left = refl; same_at = refl }, tt)),
+  );
+  ends = refl;
+}
+
+-- all of them are new: it is the fresh walk of step 7 (FreshPartitionWalk, IsNew)
+guest_page_fresh : FreshPartitionWalk tables 7 131072 1 65556 (rows_of tables (guest_ask 65556 Load)) (Leaf 1179648 12 0 7 true true)
+unfolding place_of part_start process_start after_second after_process_entry inside in_process after_entry after_tree at_node first_denial
+guest_page_fresh = record {
+  walk = guest_page_walk;
+  new = (record { stands = refl; same_moment = refl; same_sought = refl }, (record { stands = refl; same_moment = refl; same_sought = refl }, (record { stands = refl; same_moment = refl; same_sought = refl }, tt)));
+}
+
+-- where the leaf's word is not in storage, the walk has the two readings before it and stops (PartEndsAt, IsPartGap)
+guest_page_gap : PartitionWalk (λ at. if at == 1056896 then None else tables at) 131072 1 65556 (take 2 (rows_of tables (guest_ask 65556 Load))) (Stop NoStorage 1056896)
+unfolding place_of part_start process_start after_second after_process_entry inside in_process after_entry after_tree at_node first_denial
+guest_page_gap = record {
+  follows = (
+    record { same_role = refl; same_lpid = refl; same_pid = refl; same_sought = refl; same_level = refl; same_left = refl; same_at = refl },
+    (record { same_role = refl; same_lpid = refl; same_pid = refl; same_sought = refl; same_level = refl; same_left = refl; same_at = refl }, tt),
+  );
+  ends = (refl, refl);
+}
 
 -- a leaf at level 1 is a page of 2 MiB, whose field's low 21 bits are replaced by the address's: 11014 stands (real_in)
 large_page : Leads (with_words ((1122312, leaf 65536) ∷ []) tables) (ask_of 2166804 Load) (Page 1183764)

@@ -153,7 +153,7 @@ knows =
     record {
       reads = refl;
       fills = refl;
-      directories = λ kind lpid pid sought. deepest kind lpid pid sought (is_it kind lpid pid (sought / 2 ^ 31)) refl;
+      directories = λ kind lpid pid sought of_kind. deepest kind lpid pid sought (is_it kind lpid pid (sought / 2 ^ 31)) refl;
       pages = λ lpid gra j g s same. no_guest_page g lpid gra (only j g s) same;
     }
 

@@ -33,7 +33,7 @@ all_at P (y ∷ ys) (suc c) zero x all below e = some_same P y x e all.0
 all_at P (y ∷ ys) (suc c) (suc j) x all below e = all_at P ys c j x all.1 (omega (arith, below)) e
 
 -- what holds of all rows from place i + 1 to c - 1 holds of each that is later than i
-later_at : {X : Type 0} (P : X → Type 0) (xs : List X) (c i j : ℕ) (x : X) → AllByRecursion P (drop (suc i) (take c xs)) → i < j → j < c → slice_get xs j ≡ Some x → P x
+pub later_at : {X : Type 0} (P : X → Type 0) (xs : List X) (c i j : ℕ) (x : X) → AllByRecursion P (drop (suc i) (take c xs)) → i < j → j < c → slice_get xs j ≡ Some x → P x
 later_at P [] c i j x all later below e = absurd (nothing x e)
 later_at P (y ∷ ys) zero i j x all later below e = absurd (omega arith)
 later_at P (y ∷ ys) (suc c) i zero x all later below e = absurd (omega arith)
@@ -41,7 +41,7 @@ later_at P (y ∷ ys) (suc c) zero (suc j) x all later below e = all_at P ys c j
 later_at P (y ∷ ys) (suc c) (suc i) (suc j) x all later below e = later_at P ys c i j x all (omega (arith, later)) (omega (arith, below)) e
 
 -- a fill is not one of thread t with this key
-abbrev IsOther : ℕ → Key → FillRow → Type 0
+abbrev pub IsOther : ℕ → Key → FillRow → Type 0
 IsOther t key g = g.thread ≡ t → g.key ≡ key → ⊥
 
 -- a fill that took no reading stands where it is the thread's and in bounds, no later one has its key, and few are of its set

@@ -49,7 +49,7 @@ nothing_due : (a : Known) (k : Task) (s : Stage) → KnowsNothing a → due a k 
 nothing_due a k (SecondWord at) h = refl
 nothing_due a k (PartEntry goal gra at) h =
     let page : a.page k.lpid gra ≡ None = h.no_page k.lpid gra in
-    let dir : a.directory PartDir k.lpid 0 gra ≡ None = h.no_directory PartDir k.lpid 0 gra in
+    let dir : a.directory PartDir k.lpid 0 gra ≡ None = h.no_directory PartDir k.lpid 0 gra tt in
     rw page (rw dir refl)
 nothing_due a k (PartTable goal gra n) h = refl
 nothing_due a k (ProcessEntry at) h = refl
@@ -57,11 +57,11 @@ nothing_due a k (ProcessTable n at) h = refl
 nothing_due a k (Over o) h = refl
 
 -- nor is anything owed from the beginning
-nothing_owed : (a : Known) (p : Place) → KnowsNothing a → owed_at a p ≡ []
+pub nothing_owed : (a : Known) (p : Place) → KnowsNothing a → owed_at a p ≡ []
 nothing_owed a (Real at) h = refl
 nothing_owed a (GuestReal lpid at) h = refl
 nothing_owed a (Space lpid pid at) h =
-    let dir : a.directory ProcessDir lpid pid at ≡ None = h.no_directory ProcessDir lpid pid at in
+    let dir : a.directory ProcessDir lpid pid at ≡ None = h.no_directory ProcessDir lpid pid at tt in
     rw dir refl
 nothing_owed a Segment h = refl
 
@@ -81,7 +81,7 @@ resumed_is_fresh word moment a k s (New r ∷ items) out none h =
       fresh = record { walk = record { follows = (h.1, rest.fresh.walk.follows); ends = rest.fresh.walk.ends }; new = (h.2, rest.fresh.new) };
     }
 
-fresh_is_resumed : (word : ℕ → Option ℕ) (moment : ℕ) (a : Known) (k : Task) (s : Stage) (rs : List ReadRow) (out : NestResult)
+pub fresh_is_resumed : (word : ℕ → Option ℕ) (moment : ℕ) (a : Known) (k : Task) (s : Stage) (rs : List ReadRow) (out : NestResult)
     → KnowsNothing a → FreshFrom word moment k s rs out → ResumesFrom word moment a k s [] (map New rs) out
 fresh_is_resumed word moment a k s [] out none h = (nothing_due a k s none, h.walk.ends)
 fresh_is_resumed word moment a k s (r ∷ rs) out none h =
@@ -114,3 +114,11 @@ resumed_walks word moment a k s owed (New r ∷ items) out h =
 resumed_walks word moment a k s owed (Old i ∷ items) out h =
     let rest : WalksFrom word k (next k s h.1.value) (readings a.reads items) out = resumed_walks word moment a k (next k s h.1.value) h.0 items out h.5 in
     rw h.3 (let w : WalksFrom word k s (h.1 ∷ readings a.reads items) out = record { follows = (h.4, rest.follows); ends = rest.ends } in w)
+
+-- a walk that used nothing of what is kept is the fresh one
+pub unused_is_fresh : (word : ℕ → Option ℕ) (moment : ℕ) (a : Known) (k : Task) (s : Stage) (owed : List ℕ) (rs : List ReadRow) (out : NestResult)
+    → ResumesFrom word moment a k s owed (map New rs) out → FreshFrom word moment k s rs out
+unused_is_fresh word moment a k s owed [] out h = record { walk = record { follows = tt; ends = h.1 }; new = tt }
+unused_is_fresh word moment a k s owed (r ∷ rs) out h =
+    let rest : FreshFrom word moment k (next k s r.value) rs out = unused_is_fresh word moment a k (next k s r.value) [] rs out h.3 in
+    record { walk = record { follows = (h.1, rest.walk.follows); ends = rest.walk.ends }; new = (h.2, rest.new) }

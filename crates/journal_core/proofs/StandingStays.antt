@@ -7,8 +7,8 @@ use Rattle.journal_core.specs.declared.rows.ReadRow.{ReadRow}
 use Rattle.journal_core.specs.declared.rows.FillRow.{FillRow}
 use Rattle.journal_core.specs.Rows.{Rows}
 use Rattle.journal_core.specs.Covers.{IsCurrent}
-use Rattle.journal_core.specs.Standing.{fill_reads, AreRows, is_same_set, IsStanding}
-use Rattle.journal_core.specs.KeptLaws.{AreNamed, GoesOn}
+use Rattle.journal_core.specs.Standing.{fill_reads, AreRows, AreNamed, is_same_set, IsStanding}
+use Rattle.journal_core.specs.KeptLaws.{GoesOn}
 use Rattle.journal_core.proofs.CurrentLemmas.{current_with_later, current_without_later}
 
 nothing : {X : Type 0} (x : X) → None ≡ Some x → ⊥
@@ -44,20 +44,20 @@ rows_unique reads (i ∷ is) (r ∷ rs) (q ∷ qs) a b =
     let rest : rs ≡ qs = rows_unique reads is rs qs a.1 b.1 in
     ap (λ x. x ∷ rs) first ∙ ap (λ xs. q ∷ xs) rest
 
-all_get : {X : Type 0} (P : X → Type 0) (xs : List X) (i : ℕ) (x : X) → AllByRecursion P xs → slice_get xs i ≡ Some x → P x
+pub all_get : {X : Type 0} (P : X → Type 0) (xs : List X) (i : ℕ) (x : X) → AllByRecursion P xs → slice_get xs i ≡ Some x → P x
 all_get P [] i x all e = absurd (nothing x e)
 all_get P (y ∷ xs) zero x all e = subst P (some_same y x e) all.0
 all_get P (y ∷ xs) (suc i) x all e = all_get P xs i x all.1 e
 
-all_mapped : {X : Type 0} (P Q : X → Type 0) → ((x : X) → P x → Q x) → (xs : List X) → AllByRecursion P xs → AllByRecursion Q xs
+pub all_mapped : {X : Type 0} (P Q : X → Type 0) → ((x : X) → P x → Q x) → (xs : List X) → AllByRecursion P xs → AllByRecursion Q xs
 all_mapped P Q on [] all = tt
 all_mapped P Q on (x ∷ xs) all = (on x all.0, all_mapped P Q on xs all.1)
 
 -- up to c the fills are the old ones
-same_fills : (old new : Rows) (n c : ℕ) → GoesOn n old new → c ≤ length old.fills → take c new.fills ≡ take c old.fills
+pub same_fills : (old new : Rows) (n c : ℕ) → GoesOn n old new → c ≤ length old.fills → take c new.fills ≡ take c old.fills
 same_fills old new n c on within = ap (take c) on.fills ∙ take-append-le c old.fills on.more_fills within
 
-pub standing_goes_on : (old new : Rows) (floor t n c i : ℕ) (f : FillRow) → GoesOn n old new → c ≤ length old.fills → IsStanding old floor t n c i f → IsStanding new floor t n c i f
+unfoldable pub standing_goes_on : (old new : Rows) (floor t n c i : ℕ) (f : FillRow) → GoesOn n old new → c ≤ length old.fills → IsStanding old floor t n c i f → IsStanding new floor t n c i f
 standing_goes_on old new floor t n c i f on within h =
     record {
       is = ap (λ xs. slice_get xs i) on.fills ∙ at_front old.fills on.more_fills i f h.is;
@@ -72,7 +72,7 @@ standing_goes_on old new floor t n c i f on within h =
           (all_mapped (IsCurrent old.dones t n) (IsCurrent (old.dones ++ on.more_dones) t n) (λ r. current_with_later old.dones on.more_dones t n r on.later) h.readings h.current);
     }
 
-pub standing_goes_back : (old new : Rows) (floor t n c i : ℕ) (f : FillRow) → GoesOn n old new → c ≤ length old.fills → AreNamed old.reads old.fills → IsStanding new floor t n c i f → IsStanding old floor t n c i f
+unfoldable pub standing_goes_back : (old new : Rows) (floor t n c i : ℕ) (f : FillRow) → GoesOn n old new → c ≤ length old.fills → AreNamed old.reads old.fills → IsStanding new floor t n c i f → IsStanding old floor t n c i f
 standing_goes_back old new floor t n c i f on within all h =
     let is : slice_get old.fills i ≡ Some f = in_front old.fills on.more_fills i f (omega (arith, h.below, within)) (ap (λ xs. slice_get xs i) (sym on.fills) ∙ h.is) in
     let named : (rs : List ReadRow) × AreRows old.reads (fill_reads f) rs = all_get (λ g. (rs : List ReadRow) × AreRows old.reads (fill_reads g) rs) old.fills i f all is in

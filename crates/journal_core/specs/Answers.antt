@@ -35,7 +35,7 @@ AreItems reads from (i ∷ is) (Old j ∷ items) = (i < from) × (j ≡ i) × Ar
 AreItems reads from (i ∷ is) (New r ∷ items) = (from ≤ i) × (slice_get reads i ≡ Some r) × AreItems reads from is items
 
 -- A kept entry answers (`walk`): it is the thread's, from before this answer, and the ask is admitted to the address by its
--- readings (`read`, `current`, `right`).
+-- readings (`read`, `current`, `walk`, `right`).
 pub record IsHit (past : ℕ → ℕ → Option ℕ) (rows : Rows) (t n : ℕ) (before : Reached) (ask : Ask) (i real : ℕ) : Type 0 where
   pub fill : FillRow
   pub is : slice_get rows.fills i ≡ Some fill
@@ -46,7 +46,7 @@ pub record IsHit (past : ℕ → ℕ → Option ℕ) (rows : Rows) (t n : ℕ) (
   pub admitted : IsAdmitted past rows.dones t n ask readings real
 
 -- A walk answers (`walk`): its last fill is the thread's, made at this step and by this answer; the ask is admitted to the
--- address by the fill's readings (`read`, `current`, `right`); the read rows that were added are the new ones of these, in
+-- address by the fill's readings (`read`, `current`, `walk`, `right`); the read rows that were added are the new ones of these, in
 -- order (`read`); and each fill that was added, of which there are at most 35, is one that a finished walk of these
 -- readings adds.
 pub record IsWalked (past : ℕ → ℕ → Option ℕ) (rows : Rows) (t n : ℕ) (before after : Reached) (ask : Ask) (i real : ℕ) : Type 0 where
@@ -129,7 +129,9 @@ uses_of (a ∷ b ∷ c ∷ more) = use_of a ∷ use_of b ∷ use_of c ∷ []
 abbrev pub reached_at : Rows → ℕ → Reached
 reached_at rows n = record { fills = length (rows_below (λ (f : FillRow). f.moment) n rows.fills); reads = length (rows_below (λ (r : ReadRow). r.moment) n rows.reads) }
 
--- The uses of step n answer these asks so, and its read and fill rows are those of these answers and no other.
+-- The uses of step n answer these asks so, of which there are at most three, and its read and fill rows are those of these
+-- answers and no other.
 pub record KeepsUses (past : ℕ → ℕ → Option ℕ) (rows : Rows) (t n : ℕ) (asks : List Ask) (founds : List Found) (uses : List Use) : Type 0 where
+  pub few : length asks ≤ 3
   pub answers : AreAnswers past rows t n (reached_at rows n) asks founds (reached_at rows (n + 1))
   pub shown : uses ≡ uses_of founds

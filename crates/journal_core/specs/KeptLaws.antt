@@ -1,5 +1,5 @@
 -- Laws of what is kept, each the contract of a function of `kept_laws`.
-use Rattle.std.specs.Prelude.{◌≡◌, ℕ, ◌%◌, ◌<◌, ◌≤◌, ◌==◌, List, ◌++◌, length, Option, true, false}
+use Rattle.std.specs.Prelude.{◌≡◌, ℕ, ◌%◌, ◌<◌, ◌≤◌, ◌==◌, List, ◌++◌, length, map, Option, true, false, ◌↔◌}
 use Rattle.std.specs.List.{AllByRecursion, IsDistinct}
 use Rattle.journal_core.specs.declared.rows.KeyKind.{KeyKind}
 use Rattle.journal_core.specs.declared.rows.Key.{Key}
@@ -9,12 +9,21 @@ use Rattle.journal_core.specs.declared.rows.Done.TheVariants.{Ptcr}
 use Rattle.journal_core.specs.declared.rows.DoneRow.{DoneRow}
 use Rattle.journal_core.specs.Rows.{Rows}
 use Rattle.journal_core.specs.Covers.{done_covers, ends_reading, IsCurrent}
-use Rattle.journal_core.specs.Standing.{fill_reads, AreRows, IsStanding, IsStandingKey, IsDeepest}
+pub use Rattle.journal_core.specs.Standing.{AreNamed}
+use Rattle.journal_core.specs.Standing.{IsStanding, IsStandingKey, IsDeepest}
 use Rattle.journal_core.specs.declared.asks.Ask.{Ask}
 use Rattle.journal_core.specs.Walk.{stage_after, task_of, start_of, denial_of}
-use Rattle.journal_core.specs.Readings.{Follows, IsTrueReading}
+use Rattle.journal_core.specs.Readings.{Follows, Fresh, IsTrueReading}
 use Rattle.journal_core.specs.Admitted.{IsAdmitted}
-use Rattle.journal_core.specs.Choice.{IsPermitted, IsTranslated}
+use Rattle.journal_core.specs.Choice.{Reached, SameReached, IsPermitted, IsTranslated, AddsWalk, Choice}
+use Rattle.journal_core.specs.Answers.{IsAnswer, AreAnswers, KeepsUses}
+use Rattle.journal_core.specs.Early.{AddsFault, AddsNothing}
+use Rattle.journal_core.specs.declared.rows.Use.{Use}
+use Rattle.journal_core.specs.declared.rows.Use.TheVariants.{Unused, Real as RealUse, Hit, Walked, Faulted}
+use Rattle.journal_core.specs.declared.asks.Place.TheVariants.{Real as RealPlace}
+use Rattle.journal_core.specs.declared.asks.Found.{Found}
+use Rattle.journal_core.specs.declared.asks.Found.TheVariants.{Real, Fault, Stop}
+use Rattle.journal_core.specs.declared.walks.TrailItem.TheVariants.{New}
 use Rattle.journal_core.specs.Places.{place_of}
 use Rattle.journal_core.specs.Fills.{own_key}
 use Rattle.journal_core.specs.declared.walks.NestResult.TheVariants.{Page}
@@ -62,10 +71,6 @@ abbrev pub AtMostFourFillsOfASetStand : Type 0
 AtMostFourFillsOfASetStand = (rows : Rows) (floor t n c : ℕ) (kind : KeyKind) (set : ℕ) (numbers : List ℕ) →
     IsDistinct (λ i j. i == j) numbers → AllByRecursion (StandsInSet rows floor t n c kind set) numbers → length numbers ≤ 4
 
--- each fill's numbers name read rows
-abbrev pub AreNamed : List ReadRow → List FillRow → Type 0
-AreNamed reads fills = AllByRecursion (λ f. (rs : List ReadRow) × AreRows reads (fill_reads f) rs) fills
-
 -- a journal goes on from another by some reads and fills, and by completions of step n or later
 pub record GoesOn (n : ℕ) (old new : Rows) : Type 0 where
   pub more_reads : List ReadRow
@@ -99,3 +104,63 @@ abbrev pub HitsAreAdmitted : Type 0
 HitsAreAdmitted = (past : ℕ → ℕ → Option ℕ) (rows : Rows) (floor t n c : ℕ) (ask : Ask) (i real : ℕ) (hit : IsPermitted rows floor t n c ask i real) →
     IsTranslated ask → AllByRecursion (IsTrueReading past) hit.standing.readings → AreOf (own_key (place_of ask)) ask.ptcr hit.standing.readings →
     IsAdmitted past rows.dones t n ask hit.standing.readings real
+
+-- a fresh walk that ended in a page adds its readings and all its fills
+pub record AddsFresh (word : ℕ → Option ℕ) (rows : Rows) (t n : ℕ) (before after : Reached) (ask : Ask) (i real : ℕ) : Type 0 where
+  pub rs : List ReadRow
+  pub fresh : Fresh word n ask rs (Page real)
+  pub adds : AddsWalk rows t n before after ask (map New rs) i
+
+-- the fresh walk's answer, with all its fills
+abbrev pub WholeChoice : (ℕ → Option ℕ) → Rows → ℕ → ℕ → Reached → Ask → Found → Reached → Type 0
+WholeChoice word rows t n before ask (Real a (RealUse b)) after = (place_of ask ≡ RealPlace a) × (b ≡ a) × SameReached before after
+WholeChoice word rows t n before ask (Real a (Walked i b)) after = IsTranslated ask × (b ≡ a) × AddsFresh word rows t n before after ask i a
+WholeChoice word rows t n before ask (Real a (Hit i b)) after = ⊥
+WholeChoice word rows t n before ask (Real a (Faulted first count)) after = ⊥
+WholeChoice word rows t n before ask (Real a Unused) after = ⊥
+WholeChoice word rows t n before ask (Fault cause (Faulted first count)) after = IsTranslated ask × AddsFault word rows n before after ask cause first count
+WholeChoice word rows t n before ask (Fault cause Unused) after = ⊥
+WholeChoice word rows t n before ask (Fault cause (RealUse b)) after = ⊥
+WholeChoice word rows t n before ask (Fault cause (Hit i b)) after = ⊥
+WholeChoice word rows t n before ask (Fault cause (Walked i b)) after = ⊥
+WholeChoice word rows t n before ask (Stop name value) after = IsTranslated ask × AddsNothing word n before after ask name value
+
+-- no fill stands
+abbrev pub NothingStands : Rows → ℕ → ℕ → ℕ → ℕ → Type 0
+NothingStands rows floor t n c = (i : ℕ) (f : FillRow) → IsStanding rows floor t n c i f → ⊥
+
+-- where no fill stands, the choice is the fresh walk's answer with all its fills
+abbrev pub NothingStandsIsFresh : Type 0
+NothingStandsIsFresh = (word : ℕ → Option ℕ) (rows : Rows) (floor t n : ℕ) (before after : Reached) (ask : Ask) (found : Found) → NothingStands rows floor t n before.fills →
+    Choice word rows floor t n before ask found after ↔ WholeChoice word rows t n before ask found after
+
+-- so many fills and reads are there
+pub record IsWithin (reached : Reached) (rows : Rows) : Type 0 where
+  pub fills : reached.fills ≤ length rows.fills
+  pub reads : reached.reads ≤ length rows.reads
+
+-- an answer that keeps the rule keeps it when a journal goes on
+abbrev pub LaterRowsKeepAnAnswer : Type 0
+LaterRowsKeepAnAnswer = (past : ℕ → ℕ → Option ℕ) (old new : Rows) (t n : ℕ) (before after : Reached) (ask : Ask) (found : Found) → GoesOn n old new → IsWithin after old →
+    IsAnswer past old t n before ask found after → IsAnswer past new t n before ask found after
+
+-- so do the answers of several asks
+abbrev pub LaterRowsKeepAnswers : Type 0
+LaterRowsKeepAnswers = (past : ℕ → ℕ → Option ℕ) (old new : Rows) (t n : ℕ) (before after : Reached) (asks : List Ask) (founds : List Found) → GoesOn n old new → IsWithin after old →
+    AreAnswers past old t n before asks founds after → AreAnswers past new t n before asks founds after
+
+-- the choice for an ask is the choice still when a journal goes on
+abbrev pub LaterRowsKeepAChoice : Type 0
+LaterRowsKeepAChoice = (word : ℕ → Option ℕ) (old new : Rows) (floor t n : ℕ) (before after : Reached) (ask : Ask) (found : Found) → GoesOn n old new → IsWithin after old → AreNamed old.reads old.fills →
+    Choice word old floor t n before ask found after → Choice word new floor t n before ask found after
+
+-- a journal goes on from another after step n, by reads and fills of later steps and by completions of step n or later
+pub record GoesOnAfter (n : ℕ) (old new : Rows) : Type 0 where
+  pub on : GoesOn n old new
+  pub reads : AllByRecursion (λ (r : ReadRow). n < r.moment) on.more_reads
+  pub fills : AllByRecursion (λ (f : FillRow). n < f.moment) on.more_fills
+
+-- the uses of a step that keep the rule keep it when a journal goes on after the step
+abbrev pub LaterStepsKeepUses : Type 0
+LaterStepsKeepUses = (past : ℕ → ℕ → Option ℕ) (old new : Rows) (t n : ℕ) (asks : List Ask) (founds : List Found) (uses : List Use) → GoesOnAfter n old new →
+    KeepsUses past old t n asks founds uses → KeepsUses past new t n asks founds uses

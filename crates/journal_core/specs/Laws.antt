@@ -14,9 +14,10 @@ use Rattle.journal_core.specs.declared.walks.PartStage.{PartStage}
 use Rattle.journal_core.specs.declared.walks.PartStage.TheVariants.{Ended}
 use Rattle.journal_core.specs.declared.walks.TrailItem.{TrailItem}
 use Rattle.journal_core.specs.declared.walks.TrailItem.TheVariants.{New}
-use Rattle.journal_core.specs.PartitionWalk.{part_start, part_after, PartFollows}
+use Rattle.journal_core.specs.PartitionWalk.{part_start, part_after, PartFollows, PartitionWalk}
 use Rattle.journal_core.specs.Walk.{Task, inside, enter, stage_after, task_of, start_of, denial_of}
-use Rattle.journal_core.specs.Readings.{Follows, Walk, Fresh}
+use Rattle.journal_core.specs.Readings.{Follows, Walk, Fresh, FreshPartitionWalk}
+use Rattle.journal_core.specs.Admitted.{IsWalkTo, IsRight}
 use Rattle.journal_core.specs.Resumed.{Known, KnowsNothing, Resumed, readings}
 use Rattle.journal_core.specs.Fills.{new_rows}
 
@@ -43,6 +44,19 @@ values rs = map (λ (r : ReadRow). r.value) rs
 abbrev pub TrueWalkIsOne : Type 0
 TrueWalkIsOne = (deny : Rights → AccessKind → Option Denial) (word : ℕ → Option ℕ) (ask : Ask) (rs qs : List ReadRow) (o p : NestResult) → Walk deny word ask rs o → StandSo word rs → Walk deny word ask qs p → StandSo word qs → (addresses rs ≡ addresses qs) × (values rs ≡ values qs) × (o ≡ p)
 
+-- readings follow the walk of an ask by its rights to a page exactly where they are a walk to it and the rights permit it
+abbrev pub PermittedWalkIsWalk : Type 0
+PermittedWalkIsWalk = (ask : Ask) (rs : List ReadRow) (real : ℕ) → (Follows (task_of (denial_of ask) ask) (start_of (denial_of ask) ask) rs × IsRight ask rs real) ↔ (IsWalkTo ask rs real × IsRight ask rs real)
+
+-- two walks of one guest real address in a partition's tree whose words stand as their readings have them have the same
+-- addresses, the same values and the same outcome
+abbrev pub TruePartitionWalkIsOne : Type 0
+TruePartitionWalkIsOne = (word : ℕ → Option ℕ) (ptcr lpid gra : ℕ) (rs qs : List ReadRow) (o p : PartResult) → PartitionWalk word ptcr lpid gra rs o → StandSo word rs → PartitionWalk word ptcr lpid gra qs p → StandSo word qs → (addresses rs ≡ addresses qs) × (values rs ≡ values qs) × (o ≡ p)
+
+-- two fresh walks of one guest real address in a partition's tree, at one moment over the same words, are the same
+abbrev pub FreshPartitionWalkIsOne : Type 0
+FreshPartitionWalkIsOne = (word : ℕ → Option ℕ) (moment ptcr lpid gra : ℕ) (rs qs : List ReadRow) (o p : PartResult) → FreshPartitionWalk word moment ptcr lpid gra rs o → FreshPartitionWalk word moment ptcr lpid gra qs p → (rs ≡ qs) × (o ≡ p)
+
 -- readings that follow the walk of an ask are at most 36, whatever the rights refuse
 abbrev pub WalkIsShort : Type 0
 WalkIsShort = (deny : Rights → AccessKind → Option Denial) (ask : Ask) (rs : List ReadRow) → Follows (task_of deny ask) (start_of deny ask) rs → length rs ≤ 36
@@ -62,6 +76,10 @@ ResumedWalkIsWalk = (word : ℕ → Option ℕ) (moment : ℕ) (known : Known) (
 -- where nothing is kept, the items of a walk that uses what is kept are all new, and they are the readings of the fresh walk
 abbrev pub NothingKeptIsFresh : Type 0
 NothingKeptIsFresh = (word : ℕ → Option ℕ) (moment : ℕ) (known : Known) (ask : Ask) (items : List TrailItem) (out : NestResult) → KnowsNothing known → Resumed word moment known ask items out ↔ ((items ≡ map New (new_rows items)) × Fresh word moment ask (new_rows items) out)
+
+-- a walk that may use what is kept, and used nothing of it, is the fresh walk
+abbrev pub NothingUsedIsFresh : Type 0
+NothingUsedIsFresh = (word : ℕ → Option ℕ) (moment : ℕ) (known : Known) (ask : Ask) (rs : List ReadRow) (out : NestResult) → Resumed word moment known ask (map New rs) out → Fresh word moment ask rs out
 
 -- Readings that follow the walk of a partition's tree also follow each walk that enters the tree for some goal, and lead it
 -- to where it stands inside.

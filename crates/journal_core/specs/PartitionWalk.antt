@@ -1,10 +1,10 @@
 -- The walk of a partition's tree, as a relation on a finished list of readings (Power ISA, Book III, radix tree
 -- translation).
-use Rattle.std.specs.Prelude.{◌≡◌, ℕ, ◌+◌, ◌-◌, ◌*◌, ◌/◌, ◌%◌, ◌^◌, List, [], ◌∷◌, Bool, ◌&&◌, ◌||◌, ◌==◌, nat_lt, nat_le, if◌then◌else◌}
+use Rattle.std.specs.Prelude.{◌≡◌, ℕ, ◌+◌, ◌-◌, ◌*◌, ◌/◌, ◌%◌, ◌^◌, List, [], ◌∷◌, Option, None, Bool, ◌&&◌, ◌||◌, ◌==◌, nat_lt, nat_le, if◌then◌else◌}
 use Rattle.journal_core.specs.declared.rows.Role.{Role}
 use Rattle.journal_core.specs.declared.rows.Role.TheVariants.{Pate, PartDir, PartLeaf}
 use Rattle.journal_core.specs.declared.rows.ReadRow.{ReadRow}
-use Rattle.journal_core.specs.declared.rows.StopName.TheVariants.{HashedPartition}
+use Rattle.journal_core.specs.declared.rows.StopName.TheVariants.{NoStorage, HashedPartition}
 use Rattle.journal_core.specs.declared.walks.FaultKind.TheVariants.{Missing, Unsupported}
 use Rattle.journal_core.specs.declared.walks.PartResult.{PartResult}
 use Rattle.journal_core.specs.declared.walks.PartResult.TheVariants.{Leaf, Fault, Stop}
@@ -122,3 +122,19 @@ part_after lpid gra s (r ∷ rs) = part_after lpid gra (part_next lpid gra s r.v
 abbrev pub PartFollows : ℕ → ℕ → PartStage → List ReadRow → Type 0
 PartFollows lpid gra s [] = Unit {0}
 PartFollows lpid gra s (r ∷ rs) = IsPartRead lpid gra s r × PartFollows lpid gra (part_next lpid gra s r.value) rs
+
+-- the word that is to be read next is not in storage, which stops the machine
+abbrev pub IsPartGap : (ℕ → Option ℕ) → ℕ → PartResult → Type 0
+IsPartGap word at out = (word at ≡ None) × (out ≡ Stop NoStorage at)
+
+-- a walk that stands here is over with this outcome
+abbrev pub PartEndsAt : (ℕ → Option ℕ) → ℕ → PartStage → PartResult → Type 0
+PartEndsAt word gra (Entry at) out = IsPartGap word at out
+PartEndsAt word gra (Tree n) out = IsPartGap word (entry_at gra n) out
+PartEndsAt word gra (Ended o) out = out ≡ o
+
+-- These readings are a finished walk of a guest real address in a partition's tree, with this outcome, over storage whose words
+-- are these; of them it matters only which are there.
+pub record PartitionWalk (word : ℕ → Option ℕ) (ptcr lpid gra : ℕ) (rs : List ReadRow) (out : PartResult) : Type 0 where
+  pub follows : PartFollows lpid gra (part_start ptcr lpid) rs
+  pub ends : PartEndsAt word gra (part_after lpid gra (part_start ptcr lpid) rs) out

@@ -9,12 +9,14 @@ use Rattle.journal_core.specs.declared.asks.AccessKind.{AccessKind}
 use Rattle.journal_core.specs.declared.asks.Rights.{Rights}
 use Rattle.journal_core.specs.declared.asks.Denial.{Denial}
 use Rattle.journal_core.specs.declared.asks.Ask.{Ask}
+use Rattle.std.specs.List.{AllByRecursion}
+use Rattle.journal_core.specs.declared.walks.PartResult.{PartResult}
 use Rattle.journal_core.specs.declared.walks.Node.{Node}
 use Rattle.journal_core.specs.declared.walks.NestResult.{NestResult}
 use Rattle.journal_core.specs.declared.walks.NestResult.TheVariants.{Stop}
 use Rattle.journal_core.specs.declared.walks.Stage.{Stage}
 use Rattle.journal_core.specs.declared.walks.Stage.TheVariants.{SecondWord, PartEntry, PartTable, ProcessEntry, ProcessTable, Over}
-use Rattle.journal_core.specs.PartitionWalk.{IsEntryRead, IsTreeRead, SameOver, root_bits, is_leaf, entry_at}
+use Rattle.journal_core.specs.PartitionWalk.{IsEntryRead, IsTreeRead, SameOver, root_bits, is_leaf, entry_at, PartitionWalk}
 use Rattle.journal_core.specs.Walk.{Task, next, stage_after, task_of, start_of, denial_of}
 
 -- a reading of the second doubleword of a partition's entry; what it sought is not compared
@@ -118,3 +120,8 @@ pub record FreshFrom (word : ℕ → Option ℕ) (moment : ℕ) (k : Task) (s : 
 -- the fresh walk of an ask, over storage as it stands
 abbrev pub Fresh : (ℕ → Option ℕ) → ℕ → Ask → List ReadRow → NestResult → Type 0
 Fresh word moment ask rs out = FreshFrom word moment (task_of (denial_of ask) ask) (start_of (denial_of ask) ask) rs out
+
+-- the fresh walk of a guest real address in a partition's tree: all its readings are new
+pub record FreshPartitionWalk (word : ℕ → Option ℕ) (moment ptcr lpid gra : ℕ) (rs : List ReadRow) (out : PartResult) : Type 0 where
+  pub walk : PartitionWalk word ptcr lpid gra rs out
+  pub new : AllByRecursion (IsNew word moment gra) rs

@@ -16,7 +16,7 @@ use Rattle.journal_core.specs.Places.{place_of}
 use Rattle.journal_core.specs.Walk.{Task, next, task_of, start_of, denial_of}
 use Rattle.journal_core.specs.Readings.{IsRead, EndsAt, IsNew, sought_at}
 use Rattle.journal_core.specs.Rows.{Rows}
-use Rattle.journal_core.specs.Standing.{fill_reads, IsDeepest, IsStandingPage}
+use Rattle.journal_core.specs.Standing.{IsDirectoryKind, fill_reads, IsDeepest, IsStandingPage}
 
 -- what a walk may begin with: the answers of what keeps walks, and the rows that they name
 pub record Known : Type 0 where
@@ -73,14 +73,14 @@ Resumed word moment a ask items out = ResumesFrom word moment a (task_of (denial
 
 -- nothing is kept
 pub record KnowsNothing (a : Known) : Type 0 where
-  pub no_directory : (kind : KeyKind) (lpid pid sought : ℕ) → a.directory kind lpid pid sought ≡ None
+  pub no_directory : (kind : KeyKind) (lpid pid sought : ℕ) → IsDirectoryKind kind → a.directory kind lpid pid sought ≡ None
   pub no_page : (lpid gra : ℕ) → a.page lpid gra ≡ None
 
--- exactly what stands is kept
+-- exactly what stands is kept: of directories of either kind the deepest, and the guest page
 pub record KnowsStanding (rows : Rows) (floor t n c : ℕ) (a : Known) : Type 0 where
   pub reads : a.reads ≡ rows.reads
   pub fills : a.fills ≡ rows.fills
-  pub directories : (kind : KeyKind) (lpid pid sought : ℕ) → IsDeepest rows floor t n c kind lpid pid sought (a.directory kind lpid pid sought)
+  pub directories : (kind : KeyKind) (lpid pid sought : ℕ) → IsDirectoryKind kind → IsDeepest rows floor t n c kind lpid pid sought (a.directory kind lpid pid sought)
   pub pages : (lpid gra : ℕ) → IsStandingPage rows floor t n c lpid gra (a.page lpid gra)
 
 -- the readings of a walk's items

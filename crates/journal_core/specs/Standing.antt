@@ -9,6 +9,13 @@ use Rattle.journal_core.specs.declared.rows.FillRow.{FillRow}
 use Rattle.journal_core.specs.Rows.{Rows}
 use Rattle.journal_core.specs.Covers.{IsCurrent}
 
+-- the kinds of directories
+abbrev pub IsDirectoryKind : KeyKind → Type 0
+IsDirectoryKind Translation = ⊥
+IsDirectoryKind GuestPage = ⊥
+IsDirectoryKind ProcessDir = Unit {0}
+IsDirectoryKind PartDir = Unit {0}
+
 -- the key of an address that leaves so many bits
 abbrev pub key_of : KeyKind → ℕ → ℕ → ℕ → ℕ → Key
 key_of kind lpid pid left address = record { kind = kind; lpid = lpid; pid = pid; left = left; page = address / 2 ^ left }
@@ -23,6 +30,14 @@ AreRows reads [] [] = Unit {0}
 AreRows reads [] (r ∷ rs) = ⊥
 AreRows reads (i ∷ is) [] = ⊥
 AreRows reads (i ∷ is) (r ∷ rs) = (slice_get reads i ≡ Some r) × AreRows reads is rs
+
+-- each fill's numbers name read rows
+abbrev pub AreNamed : List ReadRow → List FillRow → Type 0
+AreNamed reads fills = AllByRecursion (λ f. (rs : List ReadRow) × AreRows reads (fill_reads f) rs) fills
+
+-- each fill has at most 36 readings
+abbrev pub AreShort : List FillRow → Type 0
+AreShort fills = AllByRecursion (λ (f : FillRow). f.count ≤ 36) fills
 
 abbrev pub kind_number : KeyKind → ℕ
 kind_number Translation = 0

@@ -1,5 +1,5 @@
 -- What a translation is given, and what it leaves.
-use Rattle.std.specs.Prelude.{◌≡◌, ℕ, ◌≤◌, ◌<◌, List, [], ◌∷◌, ◌++◌, length, slice_get, Contains, Option}
+use Rattle.std.specs.Prelude.{◌≡◌, ℕ, ◌+◌, ◌≤◌, ◌<◌, List, [], ◌∷◌, ◌++◌, length, slice_get, Contains, Option}
 use Rattle.std.specs.List.{AllByRecursion}
 use Rattle.journal_core.specs.declared.rows.ReadRow.{ReadRow}
 use Rattle.journal_core.specs.declared.rows.FillRow.{FillRow}
@@ -7,7 +7,7 @@ use Rattle.journal_core.specs.declared.rows.Done.{Done}
 use Rattle.journal_core.specs.declared.rows.Done.TheVariants.{Global, Local, Ptcr}
 use Rattle.journal_core.specs.declared.rows.DoneRow.{DoneRow}
 use Rattle.journal_core.specs.declared.rows.KeyKind.{KeyKind}
-use Rattle.journal_core.specs.declared.rows.KeyKind.TheVariants.{Translation, GuestPage, ProcessDir, PartDir}
+use Rattle.journal_core.specs.declared.rows.KeyKind.TheVariants.{GuestPage}
 use Rattle.journal_core.specs.declared.asks.Ask.{Ask}
 use Rattle.journal_core.specs.declared.walks.NestResult.TheVariants.{Page}
 use Rattle.journal_core.specs.declared.walks.Stage.TheVariants.{Over}
@@ -15,11 +15,12 @@ use Rattle.journal_core.specs.declared.walks.TrailItem.{TrailItem}
 use Rattle.journal_core.specs.Rows.{Rows, Shown}
 use Rattle.journal_core.specs.Places.{place_of}
 use Rattle.journal_core.specs.Walk.{stage_after, task_of, start_of, denial_of}
+pub use Rattle.journal_core.specs.Standing.{IsDirectoryKind}
 use Rattle.journal_core.specs.Standing.{IsStanding, IsFor, key_of}
 use Rattle.journal_core.specs.Resumed.{readings}
-use Rattle.journal_core.specs.Fills.{fills_of}
+use Rattle.journal_core.specs.Fills.{fills_of, new_rows}
 use Rattle.journal_core.specs.Readings.{Follows, IsTrueReading}
-use Rattle.journal_core.specs.Choice.{Reached}
+use Rattle.journal_core.specs.Choice.{Reached, added}
 
 -- no operation was completed in the step that is being made
 abbrev pub IsQuiet : Rows → Type 0
@@ -33,12 +34,14 @@ AreTrue past rows = AllByRecursion (IsTrueReading past) rows.reads
 abbrev pub reached_of : Rows → Reached
 reached_of rows = record { fills = length rows.fills; reads = length rows.reads }
 
--- reads, at most 36, and fills, at most 35, were added, and nothing else changed
+-- Reads, at most 36, and fills, at most 35, were added, each by the step that is being made, and nothing else changed.
 pub record OnlyAdds (old new : Shown) : Type 0 where
   pub reads : List ReadRow
   pub fills : List FillRow
   pub few_reads : length reads ≤ 36
   pub few_fills : length fills ≤ 35
+  pub read_moments : AllByRecursion (λ (r : ReadRow). r.moment ≡ length old.rows.steps) reads
+  pub fill_moments : AllByRecursion (λ (f : FillRow). f.moment ≡ length old.rows.steps) fills
   pub rows : new ≡ record old { rows = record old.rows { reads = old.rows.reads ++ reads; fills = old.rows.fills ++ fills } }
 
 -- the rows before the last done row, and that row
@@ -79,19 +82,15 @@ values_after Ptcr t values new = AreEqualBut t values new
 abbrev pub ReachesValues : DoneRow → List ℕ → List ℕ → Type 0
 ReachesValues row values new = values_after row.what row.thread values new
 
-abbrev pub IsDirectoryKind : KeyKind → Type 0
-IsDirectoryKind Translation = ⊥
-IsDirectoryKind GuestPage = ⊥
-IsDirectoryKind ProcessDir = Unit {0}
-IsDirectoryKind PartDir = Unit {0}
-
--- a fill is one that a finished walk of some ask adds, which ended in a page under this value of PTCR
+-- A fill is one that a finished walk of some ask adds, which ended in a page under this value of PTCR. The walk's new readings
+-- are the read rows from its first number on, so that the numbers of the fill name the readings that led to it.
 pub record IsFillOfWalk (rows : Rows) (ptcr : ℕ) (f : FillRow) : Type 0 where
   pub ask : Ask
   pub same_ptcr : ask.ptcr ≡ ptcr
   pub items : List TrailItem
   pub from : ℕ
   pub real : ℕ
+  pub new_stand : added rows.reads from (from + length (new_rows items)) ≡ new_rows items
   pub follows : Follows (task_of (denial_of ask) ask) (start_of (denial_of ask) ask) (readings rows.reads items)
   pub leads : stage_after (task_of (denial_of ask) ask) (start_of (denial_of ask) ask) (readings rows.reads items) ≡ Over (Page real)
   pub is_one : Contains (fills_of f.thread f.moment (place_of ask) rows.reads from items) f

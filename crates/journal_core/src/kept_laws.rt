@@ -1,6 +1,6 @@
 //! Laws of what is kept: each function's contract is one, and it does nothing.
 
-ghost use Rattle.journal_core.specs.KeptLaws.{OneFillOfAKeyStands, OneDirectoryIsDeepest, UncoveredReadingsStayCurrent, LaterCompletionsDoNotMatter, AChangeOfTheTableCoversEverything, AtMostFourFillsOfASetStand, LaterRowsDoNotMatter, ReadingsServeTheirKey, HitsAreAdmitted};
+ghost use Rattle.journal_core.specs.KeptLaws.{OneFillOfAKeyStands, OneDirectoryIsDeepest, UncoveredReadingsStayCurrent, LaterCompletionsDoNotMatter, AChangeOfTheTableCoversEverything, AtMostFourFillsOfASetStand, LaterRowsDoNotMatter, ReadingsServeTheirKey, HitsAreAdmitted, NothingStandsIsFresh, LaterRowsKeepAnAnswer, LaterRowsKeepAnswers, LaterRowsKeepAChoice, LaterStepsKeepUses};
 
 /// At most one fill of a key stands.
 pub fn one_fill_of_a_key_stands()
@@ -45,4 +45,25 @@ pub fn readings_serve_their_key()
 /// An ask is admitted to what its own standing fill gives, if that fill's readings are true and were taken for its key.
 pub fn hits_are_admitted()
     ensures { HitsAreAdmitted }
+{}
+
+/// Where nothing stands, the choice is the fresh walk's answer with all its fills.
+pub fn nothing_stands_is_fresh()
+    ensures { NothingStandsIsFresh }
+{}
+
+/// Answers that keep the rule of a step keep it when reads, fills and completions come after them.
+pub fn later_rows_keep_answers()
+    ensures one { LaterRowsKeepAnAnswer }
+    ensures all { LaterRowsKeepAnswers }
+{}
+
+/// A choice stays the choice when reads, fills and completions come after it.
+pub fn later_rows_keep_a_choice()
+    ensures { LaterRowsKeepAChoice }
+{}
+
+/// The uses of a step that keep the rule keep it when later steps come.
+pub fn later_steps_keep_uses()
+    ensures { LaterStepsKeepUses }
 {}

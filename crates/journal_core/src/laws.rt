@@ -4,11 +4,15 @@ ghost use Rattle.journal_core.specs.Laws.{
   FreshWalkIsOne,
   FreshWalkExists,
   TrueWalkIsOne,
+  PermittedWalkIsWalk,
+  TruePartitionWalkIsOne,
+  FreshPartitionWalkIsOne,
   WalkIsShort,
   PartitionWalkIsShort,
   ResumedWalkIsOne,
   ResumedWalkIsWalk,
   NothingKeptIsFresh,
+  NothingUsedIsFresh,
   PartitionWalkIsInside,
   EnteredWalkBeginsWithPart,
 };
@@ -26,6 +30,22 @@ pub fn fresh_walk_exists()
 /// Two walks of an ask whose words stand as they were read are equal in addresses, values and outcome.
 pub fn true_walk_is_one()
     ensures { TrueWalkIsOne }
+{}
+
+/// Readings follow the walk of an ask by its rights to a page exactly where they are a walk to it which the rights permit.
+pub fn permitted_walk_is_walk()
+    ensures { PermittedWalkIsWalk }
+{}
+
+/// Two walks of one address in a partition's tree whose words stand as they were read are equal in addresses, values and
+/// outcome.
+pub fn true_partition_walk_is_one()
+    ensures { TruePartitionWalkIsOne }
+{}
+
+/// Two fresh walks of one address in a partition's tree, at one moment over the same words, are equal.
+pub fn fresh_partition_walk_is_one()
+    ensures { FreshPartitionWalkIsOne }
 {}
 
 /// A walk of an ask has at most 36 readings.
@@ -51,6 +71,11 @@ pub fn resumed_walk_is_walk()
 /// Where nothing is kept, a walk that uses what is kept is the fresh walk.
 pub fn nothing_kept_is_fresh()
     ensures { NothingKeptIsFresh }
+{}
+
+/// A walk that may use what is kept, and used nothing of it, is the fresh walk.
+pub fn nothing_used_is_fresh()
+    ensures { NothingUsedIsFresh }
 {}
 
 /// A walk of a partition's tree is part of each walk that enters the tree.

@@ -68,6 +68,7 @@ fn each_pushed_row_is_found_by_its_number(rt: HostRuntime) -> Result<(), Fail> {
     });
     assert_eq!(rt; number, 0);
     assert!(rt; journal.fill(0).is_some_and(|row| row.key == key));
+    journal.fills_are_named();
     journal.push_write(WriteRow {
         step: 0,
         thread: 0,

@@ -31,4 +31,6 @@ invariant_of-self c =
         dones = kept.dated.dones;
         devices = rw items (in_order_push (λ (r : DeviceRow). r.step) 0 (vec_len c.self.inside.steps) c.self.inside.devices.items c.args.row here (omega arith) kept.dated.devices);
       };
+      short = kept.short;
+      named = kept.named;
     }

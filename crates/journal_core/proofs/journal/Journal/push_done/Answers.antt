@@ -31,4 +31,6 @@ invariant_of-self c =
         dones = rw items (in_order_push (λ (r : DoneRow). r.step) 0 (vec_len c.self.inside.steps) c.self.inside.dones.items c.args.row here (omega arith) kept.dated.dones);
         devices = kept.dated.devices;
       };
+      short = kept.short;
+      named = kept.named;
     }

@@ -3,6 +3,7 @@ use Rattle.std.proofs.lemmas.Grind.{common_steps}
 use Rattle.std.specs.Prelude.{vec_len}
 use Rattle.journal_core.specs.declared.rows.ReadRow.{ReadRow}
 use Rattle.journal_core.proofs.DatesLemmas.{in_order_push}
+use Rattle.journal_core.proofs.NamedLemmas.{named_by_more}
 use Rattle.journal_core.proofs.journal.Journal.push_read.Goals as goal
 
 pub invariant_of-self : goal.invariant_of-self
@@ -31,4 +32,6 @@ invariant_of-self c =
         dones = kept.dated.dones;
         devices = kept.dated.devices;
       };
+      short = kept.short;
+      named = rw items (named_by_more c.self.inside.reads.items (c.args.row ∷ []) c.self.inside.fills.items kept.named);
     }

@@ -34,4 +34,6 @@ invariant_of-self c =
         dones = in_order_higher (λ (r : DoneRow). r.step) 0 (vec_len c.self.inside.steps + 1) (vec_len c.push.new.self + 1) c.self.inside.dones.items (omega arith) kept.dated.dones;
         devices = in_order_higher (λ (r : DeviceRow). r.step) 0 (vec_len c.self.inside.steps + 1) (vec_len c.push.new.self + 1) c.self.inside.devices.items (omega arith) kept.dated.devices;
       };
+      short = kept.short;
+      named = kept.named;
     }

@@ -31,4 +31,6 @@ invariant_of-self c =
         dones = kept.dated.dones;
         devices = kept.dated.devices;
       };
+      short = kept.short;
+      named = kept.named;
     }
