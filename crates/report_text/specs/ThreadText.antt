@@ -10,7 +10,7 @@ abbrev pub thread_line : ℕ → List ℕ
 thread_line number = codes "thread " ++ decimal number ++ end_of_line
 
 abbrev pub nia_line : Thread → List ℕ
-nia_line t = codes "nia " ++ hex 16 t.nia ++ codes " msr " ++ hex 16 t.msr ++ end_of_line
+nia_line t = codes "nia " ++ hex 16 t.nia ++ codes " msr " ++ hex 16 t.msr.0 ++ end_of_line
 
 abbrev pub cr_line : Thread → List ℕ
 cr_line t = codes "cr " ++ hex 8 t.cr ++ codes " xer " ++ hex 16 (xer_number t.xer) ++ end_of_line
@@ -55,9 +55,9 @@ amr_line t = codes "amr " ++ hex 16 t.amr ++ codes " iamr " ++ hex 16 t.iamr ++ 
 
 abbrev pub sprg_line : Thread → List ℕ
 sprg_line t =
-    codes "sprg " ++ hex 16 (slice_index t.sprg 0) ++ codes " " ++ hex 16 (slice_index t.sprg 1)
-    ++ codes " " ++ hex 16 (slice_index t.sprg 2) ++ codes " " ++ hex 16 (slice_index t.sprg 3)
-    ++ codes " hsprg " ++ hex 16 (slice_index t.hsprg 0) ++ codes " " ++ hex 16 (slice_index t.hsprg 1) ++ end_of_line
+    codes "sprg " ++ hex 16 t.sprg0 ++ codes " " ++ hex 16 t.sprg1
+    ++ codes " " ++ hex 16 t.sprg2 ++ codes " " ++ hex 16 t.sprg3
+    ++ codes " hsprg " ++ hex 16 t.hsprg0 ++ codes " " ++ hex 16 t.hsprg1 ++ end_of_line
 
 -- the twenty lines of the thread with this number
 unfoldable pub thread_lines : ℕ → Thread → List (List ℕ)

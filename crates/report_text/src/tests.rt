@@ -4,6 +4,7 @@ use super::*;
 use journal_core::{Ended, Journal, RowKind, StepEnd, StepRow, StopName, Use};
 use outer_io::{MemSink, Sink, SinkFault};
 use ppc_ops::Xer;
+use ppc_spr::Msr;
 use std::test::Fail;
 use thread_regs::{Thread, Threads};
 
@@ -101,7 +102,7 @@ fn set_each_register(thread: &mut Thread) {
         thread.set_gpr(n, 0x1000 + n as u64);
     }
     thread.nia = 0x20;
-    thread.msr = 0x21;
+    thread.msr = Msr(0x21);
     thread.cr = 0x22;
     thread.xer = Xer::of(0xffff_ffff_a004_ffff);
     thread.lr = 0x24;
@@ -128,8 +129,12 @@ fn set_each_control_register(thread: &mut Thread) {
     thread.ptcr = 0x36;
     thread.amr = 0x37;
     thread.iamr = 0x38;
-    thread.sprg = [0x39, 0x3a, 0x3b, 0x3c];
-    thread.hsprg = [0x3d, 0x3e];
+    thread.sprg0 = 0x39;
+    thread.sprg1 = 0x3a;
+    thread.sprg2 = 0x3b;
+    thread.sprg3 = 0x3c;
+    thread.hsprg0 = 0x3d;
+    thread.hsprg1 = 0x3e;
     thread.tb = 0x3f;
 }
 

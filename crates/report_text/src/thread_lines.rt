@@ -23,7 +23,7 @@ fn nia_line(thread: &Thread) -> Line
     line.push_bytes(b"nia ");
     line.push_hex(16, thread.nia);
     line.push_bytes(b" msr ");
-    line.push_hex(16, thread.msr);
+    line.push_hex(16, thread.msr.0);
     line.push(b'\n');
     line
 }
@@ -172,17 +172,17 @@ fn sprg_line(thread: &Thread) -> Line
 {
     let mut line = Line::new();
     line.push_bytes(b"sprg ");
-    line.push_hex(16, thread.sprg[0]);
+    line.push_hex(16, thread.sprg0);
     line.push_bytes(b" ");
-    line.push_hex(16, thread.sprg[1]);
+    line.push_hex(16, thread.sprg1);
     line.push_bytes(b" ");
-    line.push_hex(16, thread.sprg[2]);
+    line.push_hex(16, thread.sprg2);
     line.push_bytes(b" ");
-    line.push_hex(16, thread.sprg[3]);
+    line.push_hex(16, thread.sprg3);
     line.push_bytes(b" hsprg ");
-    line.push_hex(16, thread.hsprg[0]);
+    line.push_hex(16, thread.hsprg0);
     line.push_bytes(b" ");
-    line.push_hex(16, thread.hsprg[1]);
+    line.push_hex(16, thread.hsprg1);
     line.push(b'\n');
     line
 }

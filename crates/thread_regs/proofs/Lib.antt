@@ -1,1 +1,3 @@
 pub mod ResetLemmas
+pub mod SpecialsLemmas
+pub mod RegisterLaws

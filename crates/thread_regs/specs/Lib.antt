@@ -1,2 +1,4 @@
 pub mod Registers
 pub mod Lending
+pub mod Specials
+pub mod Laws

@@ -1,5 +1,7 @@
 -- The registers of hardware threads, and their reset state.
 use Rattle.std.specs.Prelude.{ℕ, false, zero, suc, ◌+◌, ◌-◌, ◌%◌, List, [], ◌∷◌, slice_index, slice_index_or, slice_set, replicate}
+use Rattle.ppc_spr.specs.declared.msr.Msr.{Msr}
+use Rattle.ppc_spr.specs.Profile.{msr_of}
 use Rattle.thread_regs.specs.declared.registers.Thread.{Thread}
 
 -- the reset state: r3 and PIR are the thread's number, r12 the entry, and instructions lie at multiples of 4
@@ -11,7 +13,7 @@ reset number entry = record {
   lr = 0;
   ctr = 0;
   tar = 0;
-  msr = 0x9000_0000_0000_1001;
+  msr = msr_of 0x9000_0000_0000_1001;
   nia = entry - entry % 4;
   tb = 0;
   dec = 0;
@@ -26,8 +28,12 @@ reset number entry = record {
   hdsisr = 0;
   asdr = 0;
   heir = 0;
-  sprg = replicate 4 0;
-  hsprg = replicate 2 0;
+  sprg0 = 0;
+  sprg1 = 0;
+  sprg2 = 0;
+  sprg3 = 0;
+  hsprg0 = 0;
+  hsprg1 = 0;
   lpidr = 0;
   pidr = 0;
   lpcr = 0x250_0000;
@@ -45,6 +51,14 @@ gpr t n = slice_index t.gpr n
 -- a general purpose register set, all else as it was
 abbrev pub with_gpr : Thread → ℕ → ℕ → Thread
 with_gpr t n value = record t { gpr = slice_set t.gpr n value }
+
+-- the condition register set, all else as it was
+abbrev pub with_cr : Thread → ℕ → Thread
+with_cr t value = record t { cr = value }
+
+-- the machine state register set, all else as it was
+abbrev pub with_msr : Thread → Msr → Thread
+with_msr t value = record t { msr = value }
 
 -- the next address set, all else as it was
 abbrev pub with_nia : Thread → ℕ → Thread

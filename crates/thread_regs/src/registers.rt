@@ -1,9 +1,10 @@
 //! The registers of one hardware thread.
 
 ghost use Rattle.std.specs.Prelude.{◌≡◌, ◌<◌};
-ghost use Rattle.thread_regs.specs.Registers.{reset, gpr, with_gpr, with_nia};
+ghost use Rattle.thread_regs.specs.Registers.{reset, gpr, with_gpr, with_cr, with_msr, with_nia};
 
 use ppc_ops::Xer;
+use ppc_spr::Msr;
 
 /// The registers of one hardware thread (Power ISA, Book I chapters 2 and 3, Book III chapters 2 to 7).
 ///
@@ -23,7 +24,7 @@ pub struct Thread {
     /// The target address register.
     pub tar: u64,
     /// The machine state register.
-    pub msr: u64,
+    pub msr: Msr,
     /// The address of the next instruction.
     pub nia: u64,
     /// The time base.
@@ -52,10 +53,18 @@ pub struct Thread {
     pub asdr: u64,
     /// The hypervisor emulation instruction register.
     pub heir: u32,
-    /// The software-use registers 0 to 3.
-    pub sprg: [u64; 4],
-    /// The hypervisor software-use registers 0 and 1.
-    pub hsprg: [u64; 2],
+    /// The software-use register 0.
+    pub sprg0: u64,
+    /// The software-use register 1.
+    pub sprg1: u64,
+    /// The software-use register 2.
+    pub sprg2: u64,
+    /// The software-use register 3, which has two numbers.
+    pub sprg3: u64,
+    /// The hypervisor software-use register 0.
+    pub hsprg0: u64,
+    /// The hypervisor software-use register 1.
+    pub hsprg1: u64,
     /// The logical partition identification register, of 12 bits.
     pub lpidr: u16,
     /// The process identification register, of 20 bits.
@@ -98,7 +107,7 @@ impl Thread {
             lr: 0,
             ctr: 0,
             tar: 0,
-            msr: 0x9000_0000_0000_1001,
+            msr: Msr(0x9000_0000_0000_1001),
             nia: entry - entry % 4,
             tb: 0,
             dec: 0,
@@ -113,8 +122,12 @@ impl Thread {
             hdsisr: 0,
             asdr: 0,
             heir: 0,
-            sprg: [0; 4],
-            hsprg: [0; 2],
+            sprg0: 0,
+            sprg1: 0,
+            sprg2: 0,
+            sprg3: 0,
+            hsprg0: 0,
+            hsprg1: 0,
             lpidr: 0,
             pidr: 0,
             lpcr: 0x0250_0000,
@@ -140,6 +153,34 @@ impl Thread {
         ensures { self.new ≡ with_gpr self.old n value }
     {
         self.gpr[n as usize] = value;
+    }
+
+    /// The condition register.
+    pub fn cr(&self) -> u32
+        ensures { result ≡ self.now.cr }
+    {
+        self.cr
+    }
+
+    /// Sets the condition register.
+    pub fn set_cr(&mut self, value: u32)
+        ensures { self.new ≡ with_cr self.old value }
+    {
+        self.cr = value;
+    }
+
+    /// The machine state register.
+    pub fn msr(&self) -> Msr
+        ensures { result ≡ self.now.msr }
+    {
+        self.msr
+    }
+
+    /// Sets the machine state register.
+    pub fn set_msr(&mut self, value: Msr)
+        ensures { self.new ≡ with_msr self.old value }
+    {
+        self.msr = value;
     }
 
     /// The address of the next instruction.

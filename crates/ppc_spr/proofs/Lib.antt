@@ -1,0 +1,5 @@
+pub mod BitTests
+pub mod Bitwise
+pub mod Puts
+pub mod Profile
+pub mod LawLemmas

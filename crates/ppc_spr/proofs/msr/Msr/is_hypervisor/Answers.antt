@@ -1,0 +1,5 @@
+use Rattle.ppc_spr.proofs.BitTests.{tests_bit}
+use Rattle.ppc_spr.proofs.msr.Msr.is_hypervisor.Goals as goal
+
+pub returns : goal.returns
+returns c = tests_bit c.args.self.0 60

@@ -1,0 +1,20 @@
+//! Special purpose registers, who may use them, and the machine state register.
+#![tactic(auto)]
+
+mod answer;
+mod laws;
+mod msr;
+mod privilege;
+mod spr;
+
+pub use answer::Access;
+pub use laws::{
+    guests_stay_guests, interrupts_keep_the_profile, new_values_are_in_the_profile,
+    problem_state_is_confined,
+};
+pub use msr::{Hyper, Msr, ProfileBits};
+pub use privilege::access;
+pub use spr::{Spr, is_hypervisor, is_read_only, number, spr_of, width};
+
+#[cfg(test)]
+mod tests;

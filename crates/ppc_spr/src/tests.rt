@@ -1,0 +1,2 @@
+mod msr_values;
+mod registers;
