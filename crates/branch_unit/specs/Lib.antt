@@ -1,0 +1,7 @@
+pub mod Fields
+pub mod Masks
+pub mod CrLogic
+pub mod Compare
+pub mod Trap
+pub mod Select
+pub mod Branch
