@@ -1,7 +1,7 @@
 -- Classes of operations.
 use Rattle.std.specs.Prelude.{Bool, true, false}
 use Rattle.ppc_ops.specs.declared.op.Op.{Op}
-use Rattle.ppc_ops.specs.declared.op.Op.TheVariants.{Addme, Addze, Neg, Subfme, Subfze, Addi, Addis, Srawi, Rldcl, Rldcr, Cmpli, Cmpeqb, Ld, Ldu, Lwa, Std, Stdu, Lwzu, Lbzu, Lhzu, Lhau, Lwzux, Lbzux, Lhzux, Lhaux, Lwaux, Ldux, Stwu, Stbu, Sthu, Stwux, Stbux, Sthux, Stdux, Bcctr}
+use Rattle.ppc_ops.specs.declared.op.Op.TheVariants.{Addme, Addze, Neg, Subfme, Subfze, Addi, Addis, Srawi, Rldcl, Rldcr, Cmpli, Cmpeqb, Ld, Ldu, Lwa, Std, Stdu, Lwzu, Lbzu, Lhzu, Lhau, Lwzux, Lbzux, Lhzux, Lhaux, Lwaux, Ldux, Stwu, Stbu, Sthu, Stwux, Stbux, Sthux, Stdux, Bcctr, Lwzcix, Lhzcix, Lbzcix, Ldcix, Stwcix, Sthcix, Stbcix, Stdcix}
 
 -- operations of one register, whose bits 16:20 are ignored
 abbrev pub has_one_source : Op → Bool
@@ -79,3 +79,15 @@ stores_with_update op = false
 abbrev pub branches_to_count : Op → Bool
 branches_to_count Bcctr = true
 branches_to_count op = false
+
+-- loads and stores of the hypervisor that do not use caches
+abbrev pub inhibits_caching : Op → Bool
+inhibits_caching Lwzcix = true
+inhibits_caching Lhzcix = true
+inhibits_caching Lbzcix = true
+inhibits_caching Ldcix = true
+inhibits_caching Stwcix = true
+inhibits_caching Sthcix = true
+inhibits_caching Stbcix = true
+inhibits_caching Stdcix = true
+inhibits_caching op = false

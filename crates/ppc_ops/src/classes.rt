@@ -93,3 +93,20 @@ pub fn branches_to_count(op: Op) -> bool
 {
     matches!(op, Op::Bcctr)
 }
+
+/// Whether the operation is one of these: loads and stores of the hypervisor that do not use caches.
+pub fn inhibits_caching(op: Op) -> bool
+    ensures { result ≡ classes.inhibits_caching op }
+{
+    matches!(
+        op,
+        Op::Lwzcix
+            | Op::Lhzcix
+            | Op::Lbzcix
+            | Op::Ldcix
+            | Op::Stwcix
+            | Op::Sthcix
+            | Op::Stbcix
+            | Op::Stdcix
+    )
+}

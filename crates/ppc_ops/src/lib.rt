@@ -12,8 +12,9 @@ mod rows;
 mod table;
 
 pub use classes::{
-    branches_to_count, compares_unsigned, has_one_source, loads_with_update, scales_displacement,
-    seeks_any_byte, shifts_words, stores_with_update, takes_zero, turns_by_register,
+    branches_to_count, compares_unsigned, has_one_source, inhibits_caching, loads_with_update,
+    scales_displacement, seeks_any_byte, shifts_words, stores_with_update, takes_zero,
+    turns_by_register,
 };
 pub use forms::is_invalid;
 pub use insn::{Insn, Layout};

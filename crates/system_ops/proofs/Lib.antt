@@ -1,0 +1,5 @@
+pub mod LpcrBits
+pub mod Ways
+pub mod Keeping
+pub mod Programs
+pub mod Untouched

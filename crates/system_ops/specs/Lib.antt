@@ -1,0 +1,6 @@
+pub mod Outcomes
+pub mod Refusals
+pub mod Lpcr
+pub mod Moves
+pub mod System
+pub mod Laws
