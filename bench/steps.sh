@@ -1,7 +1,8 @@
 #!/usr/bin/env bash
 # Times 1,048,576 steps of loops, each five times, with the program that `./radix` builds: two instructions, then eight
-# sums, products and a quotient, then eight logic operations, shifts, rotations and a count. Prints for each the best wall time of a whole call, opening and report included, the
-# steps per second, and the most memory it held.
+# sums, products and a quotient, then eight logic operations, shifts, rotations and a count, then a system call with its return
+# and a branch. Prints for each the best wall time of a whole call, opening and report included, the steps per second, and the most
+# memory it held.
 set -eu
 
 top=$(cd "$(dirname "${BASH_SOURCE[0]}")/.." && pwd)
@@ -18,19 +19,21 @@ put() {
     done
 }
 
-# An image of these words at 0x10000, with flags, addresses and sizes as in examples/first.
+# An image with this entry, and with these words at this address; flags, addresses and sizes as in examples/first.
 image() {
-    local size=$((4 * $#)) word
+    local entry=$1 at=$2 word
+    shift 2
+    local size=$((4 * $#))
     printf '\x7fELF\x02\x01\x01' && put 9 0
-    put 2 2 && put 2 21 && put 4 1 && put 8 0x10000 && put 8 64 && put 8 0
+    put 2 2 && put 2 21 && put 4 1 && put 8 "$entry" && put 8 64 && put 8 0
     put 4 2 && put 2 64 && put 2 56 && put 2 1 && put 6 0
-    put 4 1 && put 4 7 && put 8 120 && put 8 0x10000 && put 8 0x10000 && put 8 $size && put 8 $size && put 8 1
+    put 4 1 && put 4 7 && put 8 120 && put 8 "$at" && put 8 "$at" && put 8 $size && put 8 $size && put 8 1
     for word in "$@"; do
         put 4 "$word"
     done
 }
 
-# Runs a loop of these words and prints its times.
+# Runs a loop with this entry and address of these words, and prints its times.
 time_loop() {
     local name=$1 best= before after spent
     shift
@@ -55,13 +58,15 @@ time_loop() {
 printf 'threads 1\n0\nrepeat\n' >"$folder/loop.sched"
 
 # addi r3,r3,1; b .-4
-time_loop 'two instructions' 0x38630001 0x4BFFFFFC
+time_loop 'two instructions' 0x10000 0x10000 0x38630001 0x4BFFFFFC
 # addi, add, subf, addic, adde, mulld, neg, divdu; b .-32
-time_loop 'eight sums, products and quotients' \
+time_loop 'eight sums, products and quotients' 0x10000 0x10000 \
     0x38630003 0x7C841A14 0x7CA32050 0x30C4FFFF 0x7CE53114 0x7D0321D2 0x7D2800D0 0x7D481B92 0x4BFFFFE0
 # ori, xor, sld, rlwinm, cntlzd, andc, srawi, rldicl, b .-32
-time_loop 'eight logic operations, shifts, rotations and counts' \
+time_loop 'eight logic operations, shifts, rotations and counts' 0x10000 0x10000 \
     0x60630005 0x7C841A78 0x7C652036 0x54A638F8 0x7CC70074 0x7CA83878 0x7D091E70 0x792A6900 0x4BFFFFE0
+# at 0xc00 rfid, to which sc goes; sc; b .-4
+time_loop 'a system call, its return and a branch' 0xc04 0xc00 0x4C000024 0x44000002 0x4BFFFFFC
 
 if [ -x /usr/bin/time ]; then
     /usr/bin/time -f '%M' -o "$folder/memory" "$program" run "$folder/loop.elf" "$folder/loop.sched" $steps >/dev/null

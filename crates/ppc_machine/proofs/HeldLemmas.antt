@@ -7,16 +7,16 @@ use Rattle.journal_core.specs.Rows.{Rows, Shown}
 use Rattle.journal_core.specs.Steps.{Own, with_own}
 use Rattle.journal_core.specs.Ends.{IsRunning}
 use Rattle.journal_core.proofs.RunsLemmas.{IsRun-push}
-use Rattle.ppc_machine.specs.Clock.{ticked, all_ticked}
-use Rattle.ppc_machine.specs.States.{State}
-use Rattle.ppc_machine.specs.Rule.{KeepsRule, next_state, after_end}
+use Rattle.interrupts.specs.Clock.{ticked, all_ticked}
+use Rattle.ppc_step.specs.States.{State}
+use Rattle.ppc_step.specs.Rule.{KeepsRule, next_state, after_end}
 use Rattle.ppc_machine.specs.Held.{Held, now_of, start_of, IsKept}
 use Rattle.ppc_machine.specs.Machines.{StepsOn}
 
 length-end : (s : State) (own : Own) (end : StepEnd) → length (after_end s own end).threads ≡ length s.threads
 unfolding all_ticked
 length-end s own Ran = length-map (slice_set s.threads own.row.thread _) ticked ∙ length-set s.threads own.row.thread _
-length-end s own (Took cause) = refl
+length-end s own (Took cause) = length-map (slice_set s.threads own.row.thread _) ticked ∙ length-set s.threads own.row.thread _
 length-end s own (Stopped name value) = refl
 
 -- no step makes or ends a thread

@@ -1,4 +1,3 @@
-pub mod ClockLemmas
 pub mod OpenLemmas
 pub mod StepLemmas
 pub mod HeldLemmas

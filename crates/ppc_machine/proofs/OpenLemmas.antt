@@ -11,8 +11,8 @@ use Rattle.thread_regs.specs.Registers.{all_reset}
 use Rattle.elf_image.specs.declared.segment.Segment.{Segment}
 use Rattle.elf_image.specs.declared.image.Image.{Image}
 use Rattle.thread_regs.proofs.ResetLemmas.{length-reset_from}
-use Rattle.ppc_machine.specs.States.{start, loaded}
-use Rattle.ppc_machine.specs.Rule.{KeepsRule, next_state}
+use Rattle.ppc_machine.specs.Start.{start, loaded}
+use Rattle.ppc_step.specs.Rule.{KeepsRule, next_state}
 use Rattle.ppc_machine.specs.Held.{Held, start_of, now_of, IsKept}
 use Rattle.ppc_machine.specs.Machines.{opened}
 

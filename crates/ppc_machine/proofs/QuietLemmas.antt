@@ -5,9 +5,9 @@ use Rattle.journal_core.specs.Rows.{Rows, no_rows}
 use Rattle.journal_core.specs.Room.{HasRoom, read_places, fill_places, write_places, done_places, device_places}
 use Rattle.journal_core.specs.Steps.{Own, with_own, steps_of}
 use Rattle.journal_core.specs.Runs.{Made, EachKeeps, state_after}
-use Rattle.ppc_machine.specs.States.{State}
-use Rattle.ppc_machine.specs.Rule.{KeepsRule, next_state}
-use Rattle.ppc_machine.specs.Held.{IsLawfulRun}
+use Rattle.ppc_step.specs.States.{State}
+use Rattle.ppc_step.specs.Rule.{KeepsRule, next_state}
+use Rattle.ppc_step.specs.Rule.{IsLawfulRun}
 
 -- only the list of the steps has rows
 pub record IsQuiet (j : Rows) : Type 0 where

@@ -1,13 +1,12 @@
 -- What contracts see of a machine, and what each machine keeps.
 use Rattle.std.specs.Prelude.{ℕ, ◌≡◌, ◌≤◌, List, length}
-use Rattle.journal_core.specs.Rows.{Rows, Shown}
+use Rattle.journal_core.specs.Rows.{Shown}
 use Rattle.journal_core.specs.Past.{ram_before, ram_after}
-use Rattle.journal_core.specs.Runs.{IsRun, Made}
 use Rattle.thread_regs.specs.declared.registers.Thread.{Thread}
 use Rattle.thread_regs.specs.Registers.{all_reset}
-use Rattle.ppc_machine.specs.declared.ppc_step.Parts.{Parts}
-use Rattle.ppc_machine.specs.States.{State}
-use Rattle.ppc_machine.specs.Rule.{KeepsRule, next_state}
+use Rattle.ppc_step.specs.States.{State}
+use Rattle.ppc_step.specs.Rule.{IsLawfulRun}
+use Rattle.ppc_machine.specs.declared.stepping.Components.{Components}
 
 -- the entry, the registers of the threads, the bytes of RAM and the journal
 pub record Held : Type 0 where
@@ -16,9 +15,9 @@ pub record Held : Type 0 where
   pub store : List ℕ
   pub journal : Shown
 
--- the state that the parts of a machine hold
-abbrev pub state_of : Parts → State
-state_of p = record { threads = p.threads; ram = p.store }
+-- the state that the components of a machine hold
+abbrev pub state_of : Components → State
+state_of c = record { threads = c.parts.threads; ram = c.store }
 
 -- the state that a machine is in
 abbrev pub now_of : Held → State
@@ -27,11 +26,6 @@ now_of m = record { threads = m.threads; ram = m.store }
 -- the state that a machine began in: its threads reset at its entry, and its RAM with all write rows taken back
 unfoldable pub start_of : Held → State
 start_of m = record { threads = all_reset (length m.threads) m.entry; ram = ram_before m.store m.journal.rows.writes }
-
--- a journal is lawful from a state to a state: each step keeps the rule, and the last state is the one after all steps
-pub record IsLawfulRun (begin : State) (rows : Rows) (now : State) : Type 0 where
-  pub made : List (Made State)
-  pub run : IsRun (KeepsRule begin) next_state begin rows made now
 
 -- the machine's journal is lawful from the machine's start to its state
 abbrev pub IsLawful : Held → Type 0

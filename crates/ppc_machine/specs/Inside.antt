@@ -3,4 +3,4 @@ use Rattle.ppc_machine.specs.declared.machines.Machine.TheInside.{Inside}
 use Rattle.ppc_machine.specs.Held.{Held}
 
 abbrev pub held_of : Inside → Held
-held_of m = record { entry = m.entry; threads = m.parts.threads; store = m.parts.store; journal = m.parts.journal }
+held_of m = record { entry = m.entry; threads = m.components.parts.threads; store = m.components.store; journal = m.components.journal }

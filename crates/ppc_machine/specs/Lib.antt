@@ -5,12 +5,9 @@ pub use Rattle.journal_core.specs.Past
 pub use Rattle.journal_core.specs.Steps
 pub use Rattle.journal_core.specs.Runs
 pub use Rattle.journal_core.specs.Ends
-pub mod FixedPoint
-pub mod BranchUnit
-pub mod Effects
-pub mod States
-pub mod Clock
-pub mod Rule
+pub use Rattle.ppc_step.specs.States
+pub use Rattle.ppc_step.specs.Rule
+pub mod Start
 pub mod Endings
 pub mod Held
 pub mod Inside

@@ -11,9 +11,9 @@ use Rattle.sched_text.specs.Plan.{Plan, turn}
 use Rattle.elf_image.specs.declared.segment.Segment.{Segment}
 use Rattle.elf_image.specs.declared.image.Image.{Image}
 use Rattle.thread_regs.specs.Registers.{all_reset}
-use Rattle.ppc_machine.specs.States.{start_ram}
+use Rattle.ppc_machine.specs.Start.{start_ram}
 use Rattle.ppc_machine.specs.Held.{Held, now_of, start_of, IsLawful}
-use Rattle.ppc_machine.specs.Rule.{StepsTo}
+use Rattle.ppc_step.specs.Rule.{StepsTo}
 
 -- the image is one segment within so many MiB of RAM
 pub record IsOneWithin (image : Image) (ram_mib : ℕ) : Type 0 where

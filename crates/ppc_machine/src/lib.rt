@@ -1,11 +1,8 @@
 //! The machine: opening, one step, and whole runs.
 #![tactic(auto)]
 
-mod branch_unit;
-mod fixed_point;
-mod interrupts;
 mod machines;
-mod ppc_step;
+mod stepping;
 
 pub use machines::Machine;
 

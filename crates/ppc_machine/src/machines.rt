@@ -3,9 +3,10 @@
 ghost use Rattle.std.specs.Prelude.{◌≡◌, IfOk, IfErr, Some, None};
 ghost use Rattle.journal_core.specs.Ends.{ended_of, stop_of};
 
-use crate::ppc_step::{Parts, step};
+use crate::stepping::{Components, step};
 use elf_image::Image;
 use journal_core::{Ended, Journal, StepEnd, StopName};
+use ppc_step::Parts;
 use real_store::Store;
 use sched_text::Schedule;
 use std::alloc::{AllocError, Global};
@@ -16,7 +17,7 @@ use thread_regs::{Thread, Threads};
 #[derive(Drop)]
 pub struct Machine {
     entry: u64,
-    parts: Parts,
+    components: Components,
 }
 
 impl Model for Machine {
@@ -101,8 +102,10 @@ impl Machine {
         let journal = Journal::open(alloc, steps)?;
         Ok(Machine {
             entry: image.entry,
-            parts: Parts {
-                threads: Threads::reset(threads, image.entry),
+            components: Components {
+                parts: Parts {
+                    threads: Threads::reset(threads, image.entry),
+                },
                 store,
                 journal,
             },
@@ -113,14 +116,14 @@ impl Machine {
     pub fn journal(&self) -> &Journal
         ensures { result.now ≡ self.now.journal }
     {
-        &self.parts.journal
+        &self.components.journal
     }
 
     /// The registers of all threads.
     pub fn threads(&self) -> &Threads
         ensures { result.now ≡ self.now.threads }
     {
-        &self.parts.threads
+        &self.components.parts.threads
     }
 
     /// The registers of thread `i`, which is below the count.
@@ -128,14 +131,14 @@ impl Machine {
         requires { i < length self.now.threads }
         ensures { result.now ≡ thread_at self.now.threads i }
     {
-        self.parts.threads.get(i)
+        self.components.parts.threads.get(i)
     }
 
     /// RAM.
     pub fn memory(&self) -> &Store
         ensures { result.now ≡ self.now.store }
     {
-        &self.parts.store
+        &self.components.store
     }
 
     /// One step of a thread below the count. A machine whose last step is a stop answers it again and
@@ -148,10 +151,10 @@ impl Machine {
         ensures start { start_of self.new ≡ start_of self.old }
         ensures lawful { IsLawful self.new }
     {
-        if let Some((name, value)) = last_stop(&self.parts.journal) {
+        if let Some((name, value)) = last_stop(&self.components.journal) {
             return StepEnd::Stopped(name, value);
         }
-        step(&mut self.parts, thread)
+        step(&mut self.components, thread)
     }
 
     /// Runs until there are `n` step rows, or no further step can be: the last step is a stop, the schedule
@@ -161,8 +164,8 @@ impl Machine {
         ensures { RunsTo schedule.now n self.old self.new result }
     {
         loop {
-            let next = schedule.turn(self.parts.journal.counts().steps);
-            let thread = match next_at(&self.parts.journal, n, next) {
+            let next = schedule.turn(self.components.journal.counts().steps);
+            let thread = match next_at(&self.components.journal, n, next) {
                 Ok(thread) => thread,
                 Err(ended) => return ended,
             };

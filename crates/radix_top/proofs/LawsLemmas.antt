@@ -13,7 +13,7 @@ use Rattle.elf_image.specs.declared.fault.ElfFault.TheVariants as elf_faults
 use Rattle.sched_text.specs.Plan.{turn}
 use Rattle.sched_text.specs.Reading.{plan_of, one_thread}
 use Rattle.sched_text.proofs.OneThread.{turn-one_thread, plan_of-one_thread}
-use Rattle.ppc_machine.specs.States.{start}
+use Rattle.ppc_machine.specs.Start.{start}
 use Rattle.ppc_machine.specs.Held.{Held, now_of}
 use Rattle.ppc_machine.proofs.QuietLemmas.{IsQuiet-lawful, HasRoom-quiet}
 use Rattle.radix_top.specs.declared.command.Command.{Command}

@@ -7,8 +7,10 @@ use Rattle.journal_core.specs.declared.rows.Ended.{Ended}
 use Rattle.journal_core.specs.declared.rows.Ended.TheVariants as ends
 use Rattle.elf_image.specs.IsImage.{IsImage}
 use Rattle.sched_text.specs.Reading.{plan_of}
-use Rattle.ppc_machine.specs.States.{State, start}
-use Rattle.ppc_machine.specs.Held.{Held, now_of, start_of, IsLawfulRun}
+use Rattle.ppc_machine.specs.States.{State}
+use Rattle.ppc_machine.specs.Start.{start}
+use Rattle.ppc_machine.specs.Held.{Held, now_of, start_of}
+use Rattle.ppc_machine.specs.Rule.{IsLawfulRun}
 use Rattle.ppc_machine.specs.Machines.{opened, RunsTo}
 use Rattle.ppc_machine.proofs.OpenLemmas.{start_of-opened}
 use Rattle.radix_top.specs.declared.command.Command.TheVariants.{Run}

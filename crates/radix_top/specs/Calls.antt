@@ -10,8 +10,9 @@ use Rattle.elf_image.specs.IsImage.{IsImage}
 use Rattle.sched_text.specs.Plan.{Plan, turn}
 use Rattle.sched_text.specs.Reading.{plan_of}
 use Rattle.report_text.specs.Report.{report}
-use Rattle.ppc_machine.specs.States.{start}
-use Rattle.ppc_machine.specs.Held.{Held, now_of, start_of, IsLawfulRun}
+use Rattle.ppc_machine.specs.Start.{start}
+use Rattle.ppc_machine.specs.Held.{Held, now_of, start_of}
+use Rattle.ppc_machine.specs.Rule.{IsLawfulRun}
 use Rattle.radix_top.specs.declared.status.Refusal.{Refusal}
 use Rattle.radix_top.specs.declared.status.Refusal.TheVariants as refusals
 use Rattle.radix_top.specs.declared.status.Status.{Status}

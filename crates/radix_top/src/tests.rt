@@ -6,3 +6,4 @@ mod files;
 mod forms;
 mod runs;
 mod support;
+mod system_forms;

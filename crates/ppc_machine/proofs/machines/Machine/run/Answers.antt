@@ -20,13 +20,13 @@ loop-thread-init c = record {
 
 pub step-requires-clause-room : goal.step-requires-clause-room
 step-requires-clause-room c =
-    let on = GoesOn-none c.args.n c.turn-next.result c.self.inside.parts.journal.reserved c.self.inside.parts.journal.rows c.in-Ok.ensures.goes.0 in
+    let on = GoesOn-none c.args.n c.turn-next.result c.self.inside.components.journal.reserved c.self.inside.components.journal.rows c.in-Ok.ensures.goes.0 in
     rw (← c.self.view_is) on.room
 
 pub loop-thread-smaller : goal.loop-thread-smaller
 loop-thread-smaller c =
     let on : GoesOn c.args.n c.loop-thread.self.journal.reserved c.loop-thread.self.journal.rows =
-    rw (← c.self.view_is) (GoesOn-none c.args.n c.turn-next.result c.self.inside.parts.journal.reserved c.self.inside.parts.journal.rows c.in-Ok.ensures.goes.0) in
+    rw (← c.self.view_is) (GoesOn-none c.args.n c.turn-next.result c.self.inside.components.journal.reserved c.self.inside.components.journal.rows c.in-Ok.ensures.goes.0) in
     let long = length-rows c.loop-thread.self c.step.new.self c.in-Ok.thread c.step.result (c.step.ensures.row on.running) in
     omega (arith, on.fewer, long)
 
@@ -37,7 +37,7 @@ loop-thread-preserved c =
     let new = c.step.new.self in
     let t = c.in-Ok.thread in
     let on : GoesOn c.args.n old.journal.reserved old.journal.rows =
-    rw (← c.self.view_is) (GoesOn-none c.args.n c.turn-next.result c.self.inside.parts.journal.reserved c.self.inside.parts.journal.rows c.in-Ok.ensures.goes.0) in
+    rw (← c.self.view_is) (GoesOn-none c.args.n c.turn-next.result c.self.inside.components.journal.reserved c.self.inside.components.journal.rows c.in-Ok.ensures.goes.0) in
     let steps = c.step.ensures.row on.running in
     let dated : IsDated old.journal.rows = rw (← c.self.view_is) c.self.invariant.lawful.run.dated in
     let here : turn c.args.schedule.now (length old.journal.rows.steps) ≡ Some t =

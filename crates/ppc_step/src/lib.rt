@@ -1,0 +1,16 @@
+//! One step of a thread: its word, what the word's form does, the interrupt that it takes, and the clock.
+#![tactic(auto)]
+
+mod beginning;
+mod branching;
+mod conditions;
+mod execution;
+mod fixed_point;
+mod stepping;
+mod words;
+
+pub use beginning::{Beginning, begin};
+pub use stepping::{Parts, finish, step};
+
+#[cfg(test)]
+mod tests;
