@@ -1,6 +1,7 @@
 -- Branches (Power ISA, Book I, 2.4).
-use Rattle.std.specs.Prelude.{◌≡◌, ℕ, ◌+◌, ◌*◌, ◌/◌, ◌%◌, ◌^◌, ◌==◌, ℤ, pos, ◌+ℤ◌, ◌-ℤ◌, Bool, true, false, ◌&&◌, ◌||◌, not, if◌then◌else◌}
-use Rattle.ppc_bits.specs.Bits.{bit, modulo}
+use Rattle.std.specs.Prelude.{◌≡◌, ℕ, ◌==◌, ℤ, pos, ◌+ℤ◌, ◌-ℤ◌, Bool, true, false, ◌&&◌, ◌||◌, not, if◌then◌else◌}
+use Rattle.ppc_bits.specs.Bits.{bit, is_set, modulo}
+use Rattle.ppc_bits.specs.Addresses.{next_address, aligned}
 use Rattle.ppc_ops.specs.declared.op.Op.{Op}
 use Rattle.ppc_ops.specs.declared.op.Op.TheVariants.{Bclr, Bcctr, Bctar}
 use Rattle.ppc_ops.specs.declared.insn.Insn.{Insn}
@@ -17,33 +18,21 @@ is_branch other = false
 abbrev pub IsBranch : Insn → Type 0
 IsBranch i = is_branch i ≡ true
 
--- bit k of the five bits BO is 1
-abbrev pub says : ℕ → ℕ → Bool
-says bo k = bit 5 bo k == 1
-
--- CTR falls by 1 where BO2 is 0
+-- CTR falls by 1 where bit 2 of the five bits BO is 0
 abbrev pub count_after : ℕ → ℕ → ℕ
-count_after bo ctr = if says bo 2 then ctr else modulo 64 (pos ctr -ℤ pos 1)
+count_after bo ctr = if is_set 5 bo 2 then ctr else modulo 64 (pos ctr -ℤ pos 1)
 
 -- the count allows the branch where BO2 is 1; else, by the count that has fallen, BO3 asks that it be 0 or be not
 abbrev pub is_count_right : ℕ → ℕ → Bool
-is_count_right bo count = says bo 2 || (if says bo 3 then count == 0 else not (count == 0))
+is_count_right bo count = is_set 5 bo 2 || (if is_set 5 bo 3 then count == 0 else not (count == 0))
 
 -- the condition allows the branch where BO0 is 1, or where it is BO1
 abbrev pub is_condition_right : ℕ → ℕ → Bool
-is_condition_right bo condition = says bo 0 || condition == bit 5 bo 1
+is_condition_right bo condition = is_set 5 bo 0 || condition == bit 5 bo 1
 
 -- the branch is taken: `condition` is a bit of CR, and `count` is CTR after it fell
 abbrev pub is_taken : ℕ → ℕ → ℕ → Bool
 is_taken bo condition count = is_count_right bo count && is_condition_right bo condition
-
--- the address of the next instruction
-abbrev pub following : ℕ → ℕ
-following cia = (cia + 4) % 2 ^ 64
-
--- bits 62 and 63 cleared
-abbrev pub aligned : ℕ → ℕ
-aligned address = address / 4 * 4
 
 -- `to` is the address itself where `aa`, and else counts from this instruction
 abbrev pub place : Bool → ℤ → ℕ → ℕ
@@ -60,8 +49,8 @@ place_in other lr ctr tar = 0
 -- what a branch to `target` leaves: LR is the next address where `lk`, whether the branch is taken or not
 abbrev pub branched : Bool → Bool → ℕ → ℕ → ℕ → ℕ → BranchOut
 branched taken lk target cia lr count = record {
-  next = if taken then aligned target else following cia;
-  lr = if lk then following cia else lr;
+  next = if taken then aligned target else next_address cia;
+  lr = if lk then next_address cia else lr;
   ctr = count;
 }
 

@@ -1,7 +1,7 @@
 -- Comparisons (Power ISA, Book I, 3.3.10).
-use Rattle.std.specs.Prelude.{◌≡◌, ℕ, ◌*◌, ◌%◌, ◌^◌, ◌==◌, nat_le, ℤ, pos, int_lt, Bool, true, false, ◌&&◌, ◌||◌, if◌then◌else◌}
+use Rattle.std.specs.Prelude.{◌≡◌, ℕ, ◌*◌, ◌==◌, nat_le, ℤ, pos, int_lt, Bool, true, false, ◌&&◌, ◌||◌, if◌then◌else◌}
 use Rattle.std.specs.Ordering.{int_eq}
-use Rattle.ppc_bits.specs.Bits.{field_of, signed_of}
+use Rattle.ppc_bits.specs.Bits.{field_of, low, signed_of, low_signed}
 use Rattle.ppc_ops.specs.declared.op.Op.{Op}
 use Rattle.ppc_ops.specs.declared.op.Op.TheVariants.{Cmpi, Cmpli, Cmp, Cmpl, Cmprb, Cmpeqb}
 use Rattle.ppc_ops.specs.declared.insn.Insn.{Insn}
@@ -24,10 +24,10 @@ IsCompare i = is_compare i ≡ true
 
 -- the number that is compared: that of the doubleword where `wide`, else that of the low word
 abbrev pub signed_number : Bool → ℕ → ℤ
-signed_number wide v = if wide then signed_of 64 v else signed_of 32 (v % 2 ^ 32)
+signed_number wide v = if wide then signed_of 64 v else low_signed 32 v
 
 abbrev pub unsigned_number : Bool → ℕ → ℤ
-unsigned_number wide v = pos (if wide then v else v % 2 ^ 32)
+unsigned_number wide v = pos (if wide then v else low 32 v)
 
 -- less, greater or equal, and then the summary overflow
 abbrev pub order_of : ℤ → ℤ → Bool → ℕ

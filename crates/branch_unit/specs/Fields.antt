@@ -1,6 +1,6 @@
 -- The condition register: 32 bits, which are eight fields of four (Power ISA, Book I, 2.3.1).
 use Rattle.std.specs.Prelude.{ℕ, ◌+◌, ◌*◌, ◌/◌, ◌%◌, ◌==◌, if◌then◌else◌}
-use Rattle.ppc_bits.specs.Bits.{bit, field_of, word_of}
+use Rattle.ppc_bits.specs.Bits.{bit, is_set, field_of, word_of}
 
 -- field n: the bits from 4 n to 4 n + 3
 abbrev pub cr_field : ℕ → ℕ → ℕ
@@ -12,8 +12,8 @@ with_field cr bf field = word_of 32 (λ i. if i / 4 == bf then bit 4 field (i % 
 
 -- what mtcrf and mtocrf leave: each field whose bit of fxm is 1 from the low word of rs, the others kept
 abbrev pub moved_fields : ℕ → ℕ → ℕ → ℕ
-moved_fields fxm rs cr = word_of 32 (λ i. if bit 8 fxm (i / 4) == 1 then bit 64 rs (i + 32) else bit 32 cr i)
+moved_fields fxm rs cr = word_of 32 (λ i. if is_set 8 fxm (i / 4) then bit 64 rs (i + 32) else bit 32 cr i)
 
 -- the fields whose bit of fxm is 1 in their places, and zeros elsewhere
 abbrev pub fields_of : ℕ → ℕ → ℕ
-fields_of fxm cr = word_of 32 (λ i. if bit 8 fxm (i / 4) == 1 then bit 32 cr i else 0)
+fields_of fxm cr = word_of 32 (λ i. if is_set 8 fxm (i / 4) then bit 32 cr i else 0)

@@ -5,3 +5,4 @@ pub mod Compare
 pub mod Trap
 pub mod Select
 pub mod Branch
+pub mod Laws

@@ -1,10 +1,10 @@
 -- Words of 32 bits of which the code makes new values of the condition register. No public contract cites them.
 use Rattle.std.specs.Prelude.{ℕ, ◌/◌, ◌%◌, ◌==◌, if◌then◌else◌}
-use Rattle.ppc_bits.specs.Bits.{bit, word_of}
+use Rattle.ppc_bits.specs.Bits.{bit, is_set, word_of}
 
 -- bit i of `new` where the mask has a 1 there, of `old` elsewhere
 abbrev pub merged : ℕ → ℕ → ℕ → ℕ
-merged mask new old = word_of 32 (λ i. if bit 32 mask i == 1 then bit 32 new i else bit 32 old i)
+merged mask new old = word_of 32 (λ i. if is_set 32 mask i then bit 32 new i else bit 32 old i)
 
 -- a one in bit n
 abbrev pub bit_mask : ℕ → ℕ

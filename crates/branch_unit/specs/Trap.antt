@@ -1,6 +1,6 @@
 -- Traps (Power ISA, Book I, 3.3.11).
-use Rattle.std.specs.Prelude.{◌≡◌, ℕ, ◌%◌, ◌^◌, ◌==◌, nat_lt, ℤ, int_lt, Bool, true, false, ◌&&◌, ◌||◌}
-use Rattle.ppc_bits.specs.Bits.{bit, signed_of, modulo}
+use Rattle.std.specs.Prelude.{◌≡◌, ℕ, ◌==◌, nat_lt, ℤ, int_lt, Bool, true, false, ◌&&◌, ◌||◌}
+use Rattle.ppc_bits.specs.Bits.{is_set, low, signed_of, modulo}
 use Rattle.ppc_ops.specs.declared.op.Op.{Op}
 use Rattle.ppc_ops.specs.declared.op.Op.TheVariants.{Tdi, Twi, Tw, Td}
 use Rattle.ppc_ops.specs.declared.insn.Insn.{Insn}
@@ -15,25 +15,21 @@ is_trap other = false
 abbrev pub IsTrap : Insn → Type 0
 IsTrap i = is_trap i ≡ true
 
--- bit k of the five bits TO is 1
-abbrev pub asks : ℕ → ℕ → Bool
-asks to k = bit 5 to k == 1
-
--- TO asks for signed less and it holds, or for signed greater and it holds
+-- bit 0 of the five bits TO asks for signed less and it holds, or bit 1 asks for signed greater and it holds
 abbrev pub has_signed_order : ℕ → ℤ → ℤ → Bool
-has_signed_order to x y = (asks to 0 && int_lt x y) || (asks to 1 && int_lt y x)
+has_signed_order to x y = (is_set 5 to 0 && int_lt x y) || (is_set 5 to 1 && int_lt y x)
 
--- the same of unsigned less and unsigned greater
+-- bits 3 and 4 ask the same for unsigned less and unsigned greater
 abbrev pub has_unsigned_order : ℕ → ℕ → ℕ → Bool
-has_unsigned_order to a b = (asks to 3 && nat_lt a b) || (asks to 4 && nat_lt b a)
+has_unsigned_order to a b = (is_set 5 to 3 && nat_lt a b) || (is_set 5 to 4 && nat_lt b a)
 
--- numbers a and b of w bits have an order that TO asks for, or are equal where it asks for that
+-- numbers a and b of w bits have an order that TO asks for, or are equal where bit 2 asks for that
 abbrev pub has_order : ℕ → ℕ → ℕ → ℕ → Bool
 has_order w to a b =
-    has_signed_order to (signed_of w a) (signed_of w b) || ((asks to 2 && a == b) || has_unsigned_order to a b)
+    has_signed_order to (signed_of w a) (signed_of w b) || ((is_set 5 to 2 && a == b) || has_unsigned_order to a b)
 
 abbrev pub words_trap : ℕ → ℕ → ℕ → Bool
-words_trap to a b = has_order 32 to (a % 2 ^ 32) (b % 2 ^ 32)
+words_trap to a b = has_order 32 to (low 32 a) (low 32 b)
 
 abbrev pub doublewords_trap : ℕ → ℕ → ℕ → Bool
 doublewords_trap to a b = has_order 64 to a b

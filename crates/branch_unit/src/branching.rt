@@ -7,8 +7,8 @@ ghost use Rattle.ppc_ops.specs.Table.{layout_of};
 ghost use Rattle.ppc_ops.specs.declared.insn.Layout.TheVariants as layouts;
 ghost use Rattle.branch_unit.specs.Branch as branches;
 
-use crate::fields::is_one;
-use ppc_bits::field;
+use crate::fields::{asks, has_bit};
+use ppc_bits::{aligned, next_address};
 use ppc_ops::{Insn, Op};
 
 /// What a branch leaves.
@@ -22,21 +22,12 @@ pub struct BranchOut {
     pub ctr: u64,
 }
 
-/// Whether a bit of BO is 1.
-fn says(bo: u8, k: u8) -> bool
-    requires bo { bo < 32 }
-    requires k { k < 5 }
-    ensures { result ≡ branches.says bo k }
-{
-    field(u64::from(bo), 5, k, k) == 1
-}
-
 /// The count register, which falls by 1 where BO says so.
 fn count_after(bo: u8, ctr: u64) -> u64
     requires { bo < 32 }
     ensures { result ≡ branches.count_after bo ctr }
 {
-    if says(bo, 2) {
+    if asks(bo, 2) {
         ctr
     } else {
         ctr.wrapping_sub(1)
@@ -48,7 +39,7 @@ fn is_count_right(bo: u8, count: u64) -> bool
     requires { bo < 32 }
     ensures { result ≡ branches.is_count_right bo count }
 {
-    says(bo, 2) || says(bo, 3) == (count == 0)
+    asks(bo, 2) || asks(bo, 3) == (count == 0)
 }
 
 /// Whether a bit of the condition register allows the branch.
@@ -57,7 +48,7 @@ fn is_condition_right(bo: u8, bi: u8, cr: u32) -> bool
     requires bi { bi < 32 }
     ensures { result ≡ branches.is_condition_right bo (bit 32 cr bi) }
 {
-    says(bo, 0) || is_one(cr, bi) == says(bo, 1)
+    asks(bo, 0) || has_bit(cr, bi) == asks(bo, 1)
 }
 
 /// Whether the branch is taken, by the count register after it fell and a bit of the condition register.
@@ -67,20 +58,6 @@ fn is_taken(bo: u8, bi: u8, cr: u32, count: u64) -> bool
     ensures { result ≡ branches.is_taken bo (bit 32 cr bi) count }
 {
     is_count_right(bo, count) && is_condition_right(bo, bi, cr)
-}
-
-/// The address of the next instruction.
-fn following(cia: u64) -> u64
-    ensures { result ≡ branches.following cia }
-{
-    cia.wrapping_add(4)
-}
-
-/// The address with bits 62 and 63 cleared.
-fn aligned(address: u64) -> u64
-    ensures { result ≡ branches.aligned address }
-{
-    address - address % 4
 }
 
 /// The address itself where `aa`, else the one so many bytes from this instruction.
@@ -115,9 +92,9 @@ fn branched(taken: bool, lk: bool, target: u64, cia: u64, lr: u64, count: u64) -
     let next = if taken {
         aligned(target)
     } else {
-        following(cia)
+        next_address(cia)
     };
-    let lr = if lk { following(cia) } else { lr };
+    let lr = if lk { next_address(cia) } else { lr };
     BranchOut {
         next,
         lr,

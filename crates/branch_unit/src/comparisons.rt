@@ -8,7 +8,7 @@ ghost use Rattle.ppc_ops.specs.Table.{layout_of};
 ghost use Rattle.ppc_ops.specs.declared.insn.Layout.TheVariants as layouts;
 ghost use Rattle.branch_unit.specs.Compare as comparing;
 
-use ppc_bits::field;
+use ppc_bits::{field, low_word, signed_doubleword, signed_word};
 use ppc_ops::{Insn, Op, Xer};
 
 /// The signed number of a doubleword, or of its low word.
@@ -16,9 +16,9 @@ fn signed_number(wide: bool, v: u64) -> i128
     ensures { result ≡ comparing.signed_number wide v }
 {
     if wide {
-        i128::from(v.cast_signed())
+        signed_doubleword(v)
     } else {
-        i128::from(((v & 0xffff_ffff) as u32).cast_signed())
+        i128::from(signed_word(v))
     }
 }
 
@@ -29,7 +29,7 @@ fn unsigned_number(wide: bool, v: u64) -> i128
     if wide {
         i128::from(v)
     } else {
-        i128::from(v & 0xffff_ffff)
+        i128::from(low_word(v))
     }
 }
 

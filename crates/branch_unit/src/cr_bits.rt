@@ -9,7 +9,7 @@ ghost use Rattle.ppc_ops.specs.Table.{layout_of};
 ghost use Rattle.ppc_ops.specs.declared.insn.Layout.TheVariants as layouts;
 ghost use Rattle.branch_unit.specs.CrLogic as logic;
 
-use crate::fields::{cr_field, is_one, with_field};
+use crate::fields::{cr_field, has_bit, with_field};
 use crate::masks::{bit_mask, merge, repeated_bit};
 use ppc_ops::{Insn, Op, Xer};
 
@@ -55,7 +55,7 @@ fn bit_logic(op: Op, bt: u8, ba: u8, bb: u8, cr: u32) -> u32
     requires bb { bb < 32 }
     ensures { result ≡ logic.with_bit cr bt (logic.bit_of op (bit 32 cr ba) (bit 32 cr bb)) }
 {
-    with_bit(cr, bt, bit_of(op, is_one(cr, ba), is_one(cr, bb)))
+    with_bit(cr, bt, bit_of(op, has_bit(cr, ba), has_bit(cr, bb)))
 }
 
 /// What an instruction leaves of the condition register, where it is an operation on two bits, a move of a field, or the

@@ -1,18 +1,27 @@
 //! The condition register: eight fields of four bits (Power ISA, Book I, 2.3.1).
 
-ghost use Rattle.std.specs.Prelude.{◌≡◌, ◌%◌, ◌^◌, ◌<◌, ◌==◌};
-ghost use Rattle.ppc_bits.specs.Bits.{bit};
+ghost use Rattle.std.specs.Prelude.{◌≡◌, ◌<◌};
+ghost use Rattle.ppc_bits.specs.Bits as bits;
 ghost use Rattle.branch_unit.specs.Fields as fields;
 
 use crate::masks::{field_mask, fields_mask, merge, repeated_field};
-use ppc_bits::field;
+use ppc_bits::{field, is_set, low_word};
 
 /// Whether bit `n` of the condition register is 1.
-pub(crate) fn is_one(cr: u32, n: u8) -> bool
+pub(crate) fn has_bit(cr: u32, n: u8) -> bool
     requires { n < 32 }
-    ensures { result ≡ (bit 32 cr n == 1) }
+    ensures { result ≡ bits.is_set 32 cr n }
 {
-    field(u64::from(cr), 32, n, n) == 1
+    is_set(u64::from(cr), 32, n)
+}
+
+/// Whether bit `k` of BO or TO, which have five, is 1.
+pub(crate) fn asks(options: u8, k: u8) -> bool
+    requires options { options < 32 }
+    requires k { k < 5 }
+    ensures { result ≡ bits.is_set 5 options k }
+{
+    is_set(u64::from(options), 5, k)
 }
 
 /// Field `n` of the condition register.
@@ -31,13 +40,6 @@ pub fn with_field(cr: u32, bf: u8, field: u8) -> u32
     ensures { result ≡ fields.with_field cr bf field }
 {
     merge(field_mask(bf), repeated_field(field), cr)
-}
-
-/// The low word of a register.
-fn low_word(v: u64) -> u32
-    ensures { result ≡ v % 2 ^ 32 }
-{
-    (v & 0xffff_ffff) as u32
 }
 
 /// What mtcrf and mtocrf leave of the condition register: each field whose bit of `fxm` is 1 from the low word of `rs`, the

@@ -5,7 +5,7 @@ ghost use Rattle.ppc_bits.specs.Bits.{bit};
 ghost use Rattle.ppc_ops.specs.Forms.{IsForm};
 ghost use Rattle.branch_unit.specs.Select as selecting;
 
-use crate::fields::{fields_of, is_one};
+use crate::fields::{fields_of, has_bit};
 use ppc_ops::Insn;
 
 /// -1, 1 or 0 by the first two bits of a field.
@@ -13,10 +13,10 @@ fn set_by(cr: u32, bfa: u8) -> u64
     requires { bfa < 8 }
     ensures { result ≡ selecting.set_by (bit 32 cr (4 * bfa)) (bit 32 cr (4 * bfa + 1)) }
 {
-    if is_one(cr, 4 * bfa) {
+    if has_bit(cr, 4 * bfa) {
         u64::MAX
     } else {
-        u64::from(is_one(cr, 4 * bfa + 1))
+        u64::from(has_bit(cr, 4 * bfa + 1))
     }
 }
 
@@ -29,7 +29,7 @@ pub fn select(insn: &Insn, a: u64, b: u64, cr: u32) -> u64
     ensures { result ≡ selecting.select_of insn.now a b cr }
 {
     match *insn {
-        Insn::Select { bit, .. } => { if is_one(cr, bit) { a } else { b } }
+        Insn::Select { bit, .. } => { if has_bit(cr, bit) { a } else { b } }
         Insn::SetB { bfa, .. } => set_by(cr, bfa),
         Insn::MfCr { .. } => u64::from(cr),
         Insn::MfOneCr { fxm, .. } => u64::from(fields_of(fxm, cr)),

@@ -1,6 +1,6 @@
 -- What each arithmetic instruction leaves (Power ISA, Book I, 3.3.9).
 use Rattle.std.specs.Prelude.{ℕ, ◌+◌, ◌-◌, ◌*◌, ◌%◌, ◌^◌, ℤ, pos, ◌+ℤ◌, ◌*ℤ◌, Bool, true, false, IsTrue}
-use Rattle.ppc_bits.specs.Bits.{modulo}
+use Rattle.ppc_bits.specs.Bits.{low, low_signed, modulo}
 use Rattle.ppc_ops.specs.declared.op.Op.{Op}
 use Rattle.ppc_ops.specs.declared.op.Op.TheVariants.{Addi, Addis, Addic, AddicDot, Subfic, Mulli, Add, Subf, Addc, Subfc, Adde, Subfe, Addme, Subfme, Addze, Subfze, Neg, Mullw, Mulld, Divw, Divwu, Divd, Divdu, Divwe, Divweu, Divde, Divdeu, Mulhw, Mulhwu, Mulhd, Mulhdu, Modsw, Moduw, Modsd, Modud, Maddhd, Maddhdu, Maddld}
 use Rattle.ppc_ops.specs.declared.insn.Insn.{Insn}
@@ -8,18 +8,17 @@ use Rattle.ppc_ops.specs.declared.insn.Insn.TheVariants as insn
 use Rattle.ppc_ops.specs.declared.results.Xer.{Xer}
 use Rattle.ppc_ops.specs.declared.results.ArithOut.{ArithOut}
 use Rattle.ppc_ops.specs.Results.{one}
-use Rattle.fixed_arith.specs.Numbers.{low, low_signed}
 use Rattle.fixed_arith.specs.Outcomes.{plain, outcome}
 use Rattle.fixed_arith.specs.Sums.{not_of, sum, carrying_sum}
 use Rattle.fixed_arith.specs.Products.{product, high_half}
 use Rattle.fixed_arith.specs.Quotients.{signed_quotient, unsigned_quotient, divided, remainder}
-use Rattle.fixed_arith.specs.declared.outcomes.Computed.{Computed}
+use Rattle.fixed_arith.specs.declared.outcomes.Computation.{Computation}
 
 -- Each definition by operations ends with a line for the operations of other layouts. A form never has one of these:
 -- the line says nothing of any instruction, and the code proves that it is not reached.
 
 -- what an operation of a register and an immediate computes
-abbrev pub immediate_of : Op → ℕ → ℤ → Computed
+abbrev pub immediate_of : Op → ℕ → ℤ → Computation
 immediate_of Addi a si = sum a (modulo 64 si) 0
 immediate_of Addis a si = sum a (modulo 64 (si *ℤ pos (2 ^ 16))) 0
 immediate_of Addic a si = carrying_sum a (modulo 64 si) 0
@@ -34,7 +33,7 @@ records_always AddicDot = true
 records_always other = false
 
 -- what an operation of two registers and the carry CA computes
-abbrev pub registers_of : Op → ℕ → ℕ → ℕ → Computed
+abbrev pub registers_of : Op → ℕ → ℕ → ℕ → Computation
 registers_of Add a b ca = sum a b 0
 registers_of Subf a b ca = sum (not_of a) b 1
 registers_of Addc a b ca = carrying_sum a b 0

@@ -1,4 +1,4 @@
-pub mod Numbers
+pub mod Ranges
 pub mod Outcomes
 pub mod Sums
 pub mod Products

@@ -6,8 +6,7 @@ ghost use Rattle.ppc_ops.specs.Table.{layout_of};
 ghost use Rattle.ppc_ops.specs.declared.insn.Layout.TheVariants as layout;
 ghost use Rattle.fixed_arith.specs.Arith as arithmetic;
 
-use crate::numbers::{doubleword, low32, signed32, signed64, word};
-use crate::outcomes::{Computed, outcome, plain};
+use crate::outcomes::{Computation, outcome, plain};
 use crate::products::{
     high_doubleword, high_doubleword_unsigned, high_word, high_word_unsigned, immediate_product,
     low_doubleword, product, word_product,
@@ -17,10 +16,11 @@ use crate::quotients::{
     word_quotient_unsigned,
 };
 use crate::sums::{carrying_sum, sum};
+use ppc_bits::{doubleword, low_word, signed_doubleword, signed_word, word};
 use ppc_ops::{ArithOut, Insn, Op, Xer};
 
 /// What an operation of a register and an immediate computes.
-fn of_immediate(op: Op, a: u64, si: i16) -> Computed
+fn of_immediate(op: Op, a: u64, si: i16) -> Computation
     requires { layout_of op ≡ layout.AddImm }
     ensures { result ≡ arithmetic.immediate_of op a si }
 {
@@ -36,7 +36,7 @@ fn of_immediate(op: Op, a: u64, si: i16) -> Computed
 }
 
 /// What an operation of two registers and the carry computes.
-fn of_registers(op: Op, a: u64, b: u64, carry: u64) -> Computed
+fn of_registers(op: Op, a: u64, b: u64, carry: u64) -> Computation
     requires layout { layout_of op ≡ layout.Arith }
     requires carry { carry ≤ 1 }
     ensures { result ≡ arithmetic.registers_of op a b carry }
@@ -55,13 +55,13 @@ fn of_registers(op: Op, a: u64, b: u64, carry: u64) -> Computed
         Op::Neg => sum(!a, 0, 1),
         Op::Mullw => word_product(a, b),
         Op::Mulld => product(a, b),
-        Op::Divw => word_quotient(signed32(a), signed32(b)),
-        Op::Divwu => word_quotient_unsigned(u64::from(low32(a)), low32(b)),
-        Op::Divd => quotient(signed64(a), signed64(b)),
+        Op::Divw => word_quotient(signed_word(a), signed_word(b)),
+        Op::Divwu => word_quotient_unsigned(u64::from(low_word(a)), low_word(b)),
+        Op::Divd => quotient(signed_doubleword(a), signed_doubleword(b)),
         Op::Divdu => quotient_unsigned(u128::from(a), b),
-        Op::Divwe => word_quotient(signed32(a) << 32, signed32(b)),
-        Op::Divweu => word_quotient_unsigned(u64::from(low32(a)) << 32, low32(b)),
-        Op::Divde => quotient(signed64(a) << 64, signed64(b)),
+        Op::Divwe => word_quotient(signed_word(a) << 32, signed_word(b)),
+        Op::Divweu => word_quotient_unsigned(u64::from(low_word(a)) << 32, low_word(b)),
+        Op::Divde => quotient(signed_doubleword(a) << 64, signed_doubleword(b)),
         Op::Divdeu => quotient_unsigned(u128::from(a) << 64, b),
         _ => unreachable!(),
     }
@@ -87,9 +87,9 @@ fn remainder_of(op: Op, a: u64, b: u64) -> u64
     ensures { result ≡ arithmetic.remainder_of op a b }
 {
     match op {
-        Op::Modsw => word(remainder(i128::from(signed32(a)), i128::from(signed32(b)))),
-        Op::Moduw => remainder_unsigned(u64::from(low32(a)), u64::from(low32(b))),
-        Op::Modsd => doubleword(remainder(signed64(a), signed64(b))),
+        Op::Modsw => word(remainder(i128::from(signed_word(a)), i128::from(signed_word(b)))),
+        Op::Moduw => remainder_unsigned(u64::from(low_word(a)), u64::from(low_word(b))),
+        Op::Modsd => doubleword(remainder(signed_doubleword(a), signed_doubleword(b))),
         Op::Modud => remainder_unsigned(a, b),
         _ => unreachable!(),
     }

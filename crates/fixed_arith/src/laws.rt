@@ -1,8 +1,7 @@
 //! A law of the definitions.
 
 ghost use Rattle.std.specs.Prelude.{◌≡◌, pos, ◌-ℤ◌, nat_le};
-ghost use Rattle.ppc_bits.specs.Bits.{modulo};
-ghost use Rattle.fixed_arith.specs.Numbers.{low, low_signed};
+ghost use Rattle.ppc_bits.specs.Bits.{low, low_signed, modulo};
 ghost use Rattle.fixed_arith.specs.Sums.{not_of, sum, signed_sum, carries_out};
 
 /// A sum with the complement and a carry is a difference: it has the value of `b - a`, overflows where this leaves the

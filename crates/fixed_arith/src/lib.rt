@@ -3,10 +3,10 @@
 
 mod forms;
 mod laws;
-mod numbers;
 mod outcomes;
 mod products;
 mod quotients;
+mod ranges;
 mod sums;
 
 pub use forms::arith;

@@ -16,7 +16,7 @@ pub struct Carries {
 
 /// What an operation computes, before the instruction says which of it is recorded.
 #[derive(Clone, Copy, Debug, PartialEq, Eq)]
-pub struct Computed {
+pub struct Computation {
     /// The new value of the register that is written.
     pub value: u64,
     /// The carries, where the operation records them.
@@ -28,10 +28,10 @@ pub struct Computed {
 }
 
 /// A value alone: no carries to record, and no overflow.
-pub fn plain(value: u64) -> Computed
+pub fn plain(value: u64) -> Computation
     ensures { result ≡ outcomes.plain value }
 {
-    Computed {
+    Computation {
         value,
         carries: None,
         overflow: false,
@@ -40,7 +40,7 @@ pub fn plain(value: u64) -> Computed
 }
 
 /// The exception register after an instruction; `oe` asks for the overflow bits.
-fn xer_after(oe: bool, computed: Computed, xer: Xer) -> Xer
+fn xer_after(oe: bool, computed: Computation, xer: Xer) -> Xer
     ensures { result ≡ outcomes.xer_after oe computed xer }
 {
     let mut after = xer;
@@ -57,7 +57,7 @@ fn xer_after(oe: bool, computed: Computed, xer: Xer) -> Xer
 }
 
 /// What an instruction leaves: `oe` asks for the overflow bits, `rc` for the first field of the condition register.
-pub fn outcome(oe: bool, rc: bool, xer: Xer, computed: Computed) -> ArithOut
+pub fn outcome(oe: bool, rc: bool, xer: Xer, computed: Computation) -> ArithOut
     ensures { result ≡ outcomes.outcome oe rc xer computed }
 {
     let value = computed.value;

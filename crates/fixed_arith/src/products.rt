@@ -2,17 +2,18 @@
 
 ghost use Rattle.std.specs.Prelude.{◌≡◌, ◌+◌, ◌*◌, ◌%◌, ◌^◌, ◌+ℤ◌, ◌*ℤ◌, pos, ◌≤◌};
 ghost use Rattle.std.specs.Int.Signed.{mag};
-ghost use Rattle.fixed_arith.specs.Numbers.{low, low_signed};
+ghost use Rattle.ppc_bits.specs.Bits.{low, low_signed};
 ghost use Rattle.fixed_arith.specs.Products as products;
 
-use crate::numbers::{doubleword, leaves32, leaves64, low32, signed32, signed64};
-use crate::outcomes::Computed;
+use crate::outcomes::Computation;
+use crate::ranges::{leaves32, leaves64};
+use ppc_bits::{doubleword, low_word, signed_doubleword, signed_word};
 
 /// The low doubleword of a product, with its overflow.
-fn low_half(number: i128, overflow: bool) -> Computed
+fn low_half(number: i128, overflow: bool) -> Computation
     ensures { result ≡ products.low_half number overflow }
 {
-    Computed {
+    Computation {
         value: doubleword(number),
         carries: None,
         overflow,
@@ -24,7 +25,7 @@ fn low_half(number: i128, overflow: bool) -> Computed
 fn signed_product32(a: u64, b: u64) -> i64
     ensures { result ≡ low_signed 32 a *ℤ low_signed 32 b }
 {
-    signed32(a) * signed32(b)
+    signed_word(a) * signed_word(b)
 }
 
 /// The product as signed numbers, exactly.
@@ -32,25 +33,25 @@ fn signed_product64(a: u64, b: u64) -> i128
     ensures value { result ≡ low_signed 64 a *ℤ low_signed 64 b }
     ensures range { mag result ≤ 2 ^ 126 }
 {
-    signed64(a) * signed64(b)
+    signed_doubleword(a) * signed_doubleword(b)
 }
 
 /// The product and a third number, all signed, exactly.
 fn signed_multiply_add(a: u64, b: u64, c: u64) -> i128
     ensures { result ≡ low_signed 64 a *ℤ low_signed 64 b +ℤ low_signed 64 c }
 {
-    signed_product64(a, b) + signed64(c)
+    signed_product64(a, b) + signed_doubleword(c)
 }
 
 /// The product of a register and an immediate as signed numbers, exactly.
 fn signed_multiple(a: u64, immediate: i16) -> i128
     ensures { result ≡ low_signed 64 a *ℤ immediate }
 {
-    signed64(a) * i128::from(immediate)
+    signed_doubleword(a) * i128::from(immediate)
 }
 
 /// The product of the low words as signed numbers.
-pub fn word_product(a: u64, b: u64) -> Computed
+pub fn word_product(a: u64, b: u64) -> Computation
     ensures { result ≡ products.product 32 (low_signed 32 a *ℤ low_signed 32 b) }
 {
     let number = signed_product32(a, b);
@@ -58,7 +59,7 @@ pub fn word_product(a: u64, b: u64) -> Computed
 }
 
 /// The product as signed numbers.
-pub fn product(a: u64, b: u64) -> Computed
+pub fn product(a: u64, b: u64) -> Computation
     ensures { result ≡ products.product 64 (low_signed 64 a *ℤ low_signed 64 b) }
 {
     let number = signed_product64(a, b);
@@ -66,7 +67,7 @@ pub fn product(a: u64, b: u64) -> Computed
 }
 
 /// The product of a register and an immediate as signed numbers.
-pub fn immediate_product(a: u64, immediate: i16) -> Computed
+pub fn immediate_product(a: u64, immediate: i16) -> Computation
     ensures { result ≡ products.product 64 (low_signed 64 a *ℤ immediate) }
 {
     let number = signed_multiple(a, immediate);
@@ -84,7 +85,7 @@ pub fn high_word(a: u64, b: u64) -> u64
 pub fn high_word_unsigned(a: u64, b: u64) -> u64
     ensures { result ≡ products.high_half 32 (pos (low 32 a * low 32 b)) }
 {
-    (u64::from(low32(a)) * u64::from(low32(b))) >> 32
+    (u64::from(low_word(a)) * u64::from(low_word(b))) >> 32
 }
 
 /// The high doubleword of a signed number of 128 bits.

@@ -3,14 +3,15 @@
 ghost use Rattle.std.specs.Prelude.{◌≡◌, pos};
 ghost use Rattle.fixed_arith.specs.Quotients as quotients;
 
-use crate::numbers::{doubleword, leaves32, leaves64, word};
-use crate::outcomes::{Computed, plain};
+use crate::outcomes::{Computation, plain};
+use crate::ranges::{leaves32, leaves64};
+use ppc_bits::{doubleword, word};
 
 /// What a divide computes where there is no quotient.
-fn no_quotient() -> Computed
+fn no_quotient() -> Computation
     ensures { result ≡ quotients.divided 64 None }
 {
-    Computed {
+    Computation {
         value: 0,
         carries: None,
         overflow: true,
@@ -19,7 +20,7 @@ fn no_quotient() -> Computed
 }
 
 /// The quotient of two signed numbers in 32 bits.
-pub fn word_quotient(dividend: i64, divisor: i64) -> Computed
+pub fn word_quotient(dividend: i64, divisor: i64) -> Computation
     ensures { result ≡ quotients.divided 32 (quotients.signed_quotient 32 dividend divisor) }
 {
     match dividend.checked_div(divisor) {
@@ -29,7 +30,7 @@ pub fn word_quotient(dividend: i64, divisor: i64) -> Computed
 }
 
 /// The quotient of two signed numbers in 64 bits.
-pub fn quotient(dividend: i128, divisor: i128) -> Computed
+pub fn quotient(dividend: i128, divisor: i128) -> Computation
     ensures { result ≡ quotients.divided 64 (quotients.signed_quotient 64 dividend divisor) }
 {
     match dividend.checked_div(divisor) {
@@ -39,7 +40,7 @@ pub fn quotient(dividend: i128, divisor: i128) -> Computed
 }
 
 /// The quotient of two unsigned numbers in 32 bits.
-pub fn word_quotient_unsigned(dividend: u64, divisor: u32) -> Computed
+pub fn word_quotient_unsigned(dividend: u64, divisor: u32) -> Computation
     ensures { result ≡ quotients.divided 32
         (quotients.unsigned_quotient 32 (pos dividend) (pos divisor)) }
 {
@@ -50,7 +51,7 @@ pub fn word_quotient_unsigned(dividend: u64, divisor: u32) -> Computed
 }
 
 /// The quotient of two unsigned numbers in 64 bits.
-pub fn quotient_unsigned(dividend: u128, divisor: u64) -> Computed
+pub fn quotient_unsigned(dividend: u128, divisor: u64) -> Computation
     ensures { result ≡ quotients.divided 64
         (quotients.unsigned_quotient 64 (pos dividend) (pos divisor)) }
 {

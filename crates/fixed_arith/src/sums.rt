@@ -3,8 +3,9 @@
 ghost use Rattle.std.specs.Prelude.{◌≡◌, ◌≤◌};
 ghost use Rattle.fixed_arith.specs.Sums as sums;
 
-use crate::numbers::{leaves32, leaves64, low32, signed32, signed64};
-use crate::outcomes::{Carries, Computed};
+use crate::outcomes::{Carries, Computation};
+use crate::ranges::{leaves32, leaves64};
+use ppc_bits::{low_word, signed_doubleword, signed_word};
 
 /// Whether the sum carries out of all 64 bits.
 fn carries_out64(left: u64, right: u64, carry: u64) -> bool
@@ -19,7 +20,7 @@ fn carries_out32(left: u64, right: u64, carry: u64) -> bool
     requires { carry ≤ 1 }
     ensures { result ≡ sums.carries_out 32 left right carry }
 {
-    (u64::from(low32(left)) + u64::from(low32(right)) + carry) >> 32 != 0
+    (u64::from(low_word(left)) + u64::from(low_word(right)) + carry) >> 32 != 0
 }
 
 /// The sum of the two as signed numbers.
@@ -27,7 +28,7 @@ fn signed_sum64(left: u64, right: u64, carry: u64) -> i128
     requires { carry ≤ 1 }
     ensures { result ≡ sums.signed_sum 64 left right carry }
 {
-    signed64(left) + signed64(right) + i128::from(carry)
+    signed_doubleword(left) + signed_doubleword(right) + i128::from(carry)
 }
 
 /// The sum of the low words as signed numbers.
@@ -35,15 +36,15 @@ fn signed_sum32(left: u64, right: u64, carry: u64) -> i64
     requires { carry ≤ 1 }
     ensures { result ≡ sums.signed_sum 32 left right carry }
 {
-    signed32(left) + signed32(right) + carry as i64
+    signed_word(left) + signed_word(right) + carry as i64
 }
 
 /// A sum that records no carries.
-pub fn sum(left: u64, right: u64, carry: u64) -> Computed
+pub fn sum(left: u64, right: u64, carry: u64) -> Computation
     requires { carry ≤ 1 }
     ensures { result ≡ sums.sum left right carry }
 {
-    Computed {
+    Computation {
         value: left.wrapping_add(right).wrapping_add(carry),
         carries: None,
         overflow: leaves64(signed_sum64(left, right, carry)),
@@ -52,7 +53,7 @@ pub fn sum(left: u64, right: u64, carry: u64) -> Computed
 }
 
 /// A sum that records its carries.
-pub fn carrying_sum(left: u64, right: u64, carry: u64) -> Computed
+pub fn carrying_sum(left: u64, right: u64, carry: u64) -> Computation
     requires { carry ≤ 1 }
     ensures { result ≡ sums.carrying_sum left right carry }
 {
@@ -60,7 +61,7 @@ pub fn carrying_sum(left: u64, right: u64, carry: u64) -> Computed
         carry: carries_out64(left, right, carry),
         carry32: carries_out32(left, right, carry),
     };
-    Computed {
+    Computation {
         carries: Some(carries),
         ..sum(left, right, carry)
     }

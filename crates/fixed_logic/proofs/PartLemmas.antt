@@ -2,7 +2,7 @@
 use Rattle.std.proofs.Common.{◌≡◌, ℕ, zero, suc, ◌+◌, ◌*◌, ◌%◌, ◌^◌, ◌<◌, List, ap, ◌∙◌, arith, slice_index}
 use Rattle.std.specs.Int.{to_be_bytes, w64}
 use Rattle.ppc_bits.specs.Bits.{weights, word_of}
-use Rattle.fixed_logic.specs.Parts.{sum_below, joined, byte_of, word_at, of_bytes, of_words}
+use Rattle.fixed_logic.specs.Parts.{sum_below, joined, byte_of, word_in, of_bytes, of_words}
 use Rattle.fixed_logic.specs.Counts.{parity_of, prtyd_of}
 
 -- byte i of the list of bytes is byte i of the doubleword
@@ -64,10 +64,10 @@ pub doubleword_parity : (s : ℕ) (xs : List ℕ) → xs ≡ to_be_bytes w64 s �
 unfolding sum_below
 doubleword_parity s xs e = ap (λ (l : List ℕ). (four_lowest l 0 + four_lowest l 4) % 2) e ∙ omega arith
 
-pub high_parity : (s : ℕ) (xs : List ℕ) → xs ≡ to_be_bytes w64 s → four_lowest xs 0 % 2 ≡ parity_of 32 4 (word_at s 0)
+pub high_parity : (s : ℕ) (xs : List ℕ) → xs ≡ to_be_bytes w64 s → four_lowest xs 0 % 2 ≡ parity_of 32 4 (word_in s 0)
 unfolding sum_below
 high_parity s xs e = ap (λ (l : List ℕ). four_lowest l 0 % 2) e ∙ omega arith
 
-pub low_parity : (s : ℕ) (xs : List ℕ) → xs ≡ to_be_bytes w64 s → four_lowest xs 4 % 2 ≡ parity_of 32 4 (word_at s 1)
+pub low_parity : (s : ℕ) (xs : List ℕ) → xs ≡ to_be_bytes w64 s → four_lowest xs 4 % 2 ≡ parity_of 32 4 (word_in s 1)
 unfolding sum_below
 low_parity s xs e = ap (λ (l : List ℕ). four_lowest l 4 % 2) e ∙ omega arith

@@ -17,8 +17,8 @@ abbrev pub byte_of : ℕ → ℕ → ℕ
 byte_of s i = field_of 64 s (8 * i) (8 * i + 7)
 
 -- word i of a doubleword
-abbrev pub word_at : ℕ → ℕ → ℕ
-word_at s i = field_of 64 s (32 * i) (32 * i + 31)
+abbrev pub word_in : ℕ → ℕ → ℕ
+word_in s i = field_of 64 s (32 * i) (32 * i + 31)
 
 -- the doubleword whose byte i is f i
 abbrev pub of_bytes : (ℕ → ℕ) → ℕ

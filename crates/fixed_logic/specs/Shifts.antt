@@ -1,13 +1,9 @@
 -- Signed extensions (Power ISA, Book I, 3.3.13) and shifts (3.3.14) of the low w bits of a doubleword.
-use Rattle.std.specs.Prelude.{ℕ, ◌*◌, ◌/◌, ◌%◌, ◌^◌, ℤ, pos, ◌*ℤ◌, int_lt, Bool, ◌&&◌, not, ◌==◌}
+use Rattle.std.specs.Prelude.{ℕ, ◌*◌, ◌/◌, ◌^◌, pos, ◌*ℤ◌, int_lt, Bool, ◌&&◌, not, ◌==◌}
 use Rattle.std.specs.Int.{int_div_euclid}
-use Rattle.ppc_bits.specs.Bits.{field_of, signed_of, modulo}
+use Rattle.ppc_bits.specs.Bits.{field_of, low, low_signed, modulo}
 
--- the low w bits as a signed number
-abbrev pub low_signed : ℕ → ℕ → ℤ
-low_signed w s = signed_of w (s % 2 ^ w)
-
--- the doubleword of that number
+-- the doubleword of the signed number of the low w bits
 abbrev pub extended : ℕ → ℕ → ℕ
 extended w s = modulo 64 (low_signed w s)
 
@@ -20,11 +16,11 @@ distance b = field_of 64 b 57 63
 
 -- the low w bits of the product by 2 ^ n: they are 0 from n = w on
 abbrev pub shifted_left : ℕ → ℕ → ℕ → ℕ
-shifted_left w s n = s * 2 ^ n % 2 ^ w
+shifted_left w s n = low w (s * 2 ^ n)
 
 -- the quotient by 2 ^ n: it is 0 from n = w on
 abbrev pub shifted_right : ℕ → ℕ → ℕ → ℕ
-shifted_right w s n = s % 2 ^ w / 2 ^ n
+shifted_right w s n = low w s / 2 ^ n
 
 -- the signed product by 2 ^ n
 abbrev pub shifted_extended : ℕ → ℕ → ℕ → ℕ
@@ -36,4 +32,4 @@ shifted_signed w s n = modulo 64 (int_div_euclid (low_signed w s) (pos (2 ^ n)))
 
 -- the number is negative and a 1 is among the bits that are lost, which are the remainder by 2 ^ n
 abbrev pub loses_one : ℕ → ℕ → ℕ → Bool
-loses_one w s n = int_lt (low_signed w s) (pos 0) && not (s % 2 ^ w % 2 ^ n == 0)
+loses_one w s n = int_lt (low_signed w s) (pos 0) && not (low n (low w s) == 0)

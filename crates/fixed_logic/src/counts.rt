@@ -3,10 +3,12 @@
 ghost use Rattle.std.specs.Prelude.{◌≡◌, ◌≤◌};
 ghost use Rattle.fixed_logic.specs.Counts.{ones_of, cntlzw_of, cntlzd_of, cnttzw_of, cnttzd_of, popcntb_of, popcntw_of, popcntd_of, prtyw_of, prtyd_of};
 
+use ppc_bits::low_word;
+
 pub(crate) fn cntlzw(s: u64) -> u64
     ensures { result ≡ cntlzw_of s }
 {
-    u64::from(((s & 0xffff_ffff) as u32).leading_zeros())
+    u64::from(low_word(s).leading_zeros())
 }
 
 pub(crate) fn cntlzd(s: u64) -> u64
@@ -18,7 +20,7 @@ pub(crate) fn cntlzd(s: u64) -> u64
 pub(crate) fn cnttzw(s: u64) -> u64
     ensures { result ≡ cnttzw_of s }
 {
-    u64::from(((s & 0xffff_ffff) as u32).trailing_zeros())
+    u64::from(low_word(s).trailing_zeros())
 }
 
 pub(crate) fn cnttzd(s: u64) -> u64
@@ -54,7 +56,7 @@ pub(crate) fn popcntw(s: u64) -> u64
     ensures { result ≡ popcntw_of s }
 {
     let high = (s >> 32) as u32;
-    let low = (s & 0xffff_ffff) as u32;
+    let low = low_word(s);
     (u64::from(high.count_ones()) << 32) + u64::from(low.count_ones())
 }
 

@@ -9,7 +9,9 @@ ghost use Rattle.fixed_logic.specs.Logic.{IsLogic, outcome, signed_outcome, imme
 use crate::bitwise::{and, andc, eqv, nand, nor, or, orc, xor};
 use crate::bytes::{bpermd, cmpb};
 use crate::counts::{cntlzd, cntlzw, cnttzd, cnttzw, popcntb, popcntd, popcntw, prtyd, prtyw};
-use crate::rotates::{insert, turn_by_register, turn_word, turn_word_by_register, word_mask};
+use crate::rotates::{
+    insert, mask_before, turn_by_register, turn_word, turn_word_by_register, word_mask,
+};
 use crate::shifts::{
     distance, extend_byte, extend_halfword, extend_word, loses_one, shift_extended_word,
     shift_left, shift_right, shift_signed, shift_signed_word, shift_word_left, shift_word_right,
@@ -185,8 +187,8 @@ fn rotate(op: Op, s: u64, b: u64, old: u64, by: u8, edge: u8, rc: bool, xer: Xer
     match op {
         Op::Rldicl => leave(rc, insert(rotl64(s, by), mask(edge, 63), 0), xer),
         Op::Rldicr => leave(rc, insert(rotl64(s, by), mask(0, edge), 0), xer),
-        Op::Rldic => leave(rc, insert(rotl64(s, by), mask(edge, 63 - by), 0), xer),
-        Op::Rldimi => leave(rc, insert(rotl64(s, by), mask(edge, 63 - by), old), xer),
+        Op::Rldic => leave(rc, insert(rotl64(s, by), mask_before(edge, by), 0), xer),
+        Op::Rldimi => leave(rc, insert(rotl64(s, by), mask_before(edge, by), old), xer),
         Op::Rldcl => leave(rc, insert(turn_by_register(s, b), mask(edge, 63), 0), xer),
         Op::Rldcr => leave(rc, insert(turn_by_register(s, b), mask(0, edge), 0), xer),
         _ => unreachable!(),

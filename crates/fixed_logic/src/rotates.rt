@@ -1,9 +1,10 @@
 //! Rotations under a mask (Power ISA, Book I, 3.3.14).
 
-ghost use Rattle.std.specs.Prelude.{◌≡◌, ◌<◌};
+ghost use Rattle.std.specs.Prelude.{◌≡◌, ◌-◌, ◌<◌};
+ghost use Rattle.ppc_bits.specs.Bits.{mask_of};
 ghost use Rattle.fixed_logic.specs.Rotates.{inserted, turned_word, turned, word_turn, word_mask, turn};
 
-use ppc_bits::{field, mask, rotl32, rotl64};
+use ppc_bits::{field, low_word, mask, rotl32, rotl64};
 
 /// The bits of `r` where the mask `m` has ones, those of `old` elsewhere.
 pub(crate) fn insert(r: u64, m: u64, old: u64) -> u64
@@ -17,7 +18,7 @@ pub(crate) fn turn_word(s: u64, by: u8) -> u64
     requires { by < 32 }
     ensures { result ≡ turned_word s by }
 {
-    rotl32((s & 0xffff_ffff) as u32, by)
+    rotl32(low_word(s), by)
 }
 
 /// The mask of a rotation of words, whose bits are numbered in the low word.
@@ -27,6 +28,15 @@ pub(crate) fn word_mask(mb: u8, me: u8) -> u64
     ensures { result ≡ word_mask mb me }
 {
     mask(mb + 32, me + 32)
+}
+
+/// The mask from `edge` to the last bit of a doubleword that is turned left by `by` and not round its end.
+pub(crate) fn mask_before(edge: u8, by: u8) -> u64
+    requires edge { edge < 64 }
+    requires by { by < 64 }
+    ensures { result ≡ mask_of edge (63 - by) }
+{
+    mask(edge, 63 - by)
 }
 
 /// How far a register turns a word: its bits 59:63.

@@ -3,9 +3,9 @@
 ghost use Rattle.std.specs.Prelude.{◌≡◌, ◌%◌, ◌^◌, ◌<◌, ◌==◌, pos, int_lt, not, FitsSigned};
 ghost use Rattle.std.specs.Int.{w64, int_div_euclid};
 ghost use Rattle.ppc_bits.specs.Bits.{modulo};
-ghost use Rattle.fixed_logic.specs.Shifts.{extended, word_distance, distance, shifted_left, shifted_right, shifted_extended, shifted_signed, loses_one, low_signed};
+ghost use Rattle.fixed_logic.specs.Shifts.{extended, word_distance, distance, shifted_left, shifted_right, shifted_extended, shifted_signed, loses_one};
 
-use ppc_bits::{field, sign_extend};
+use ppc_bits::{field, low_word, sign_extend, signed_doubleword, signed_word};
 
 pub(crate) fn extend_byte(s: u64) -> u64
     ensures { result ≡ extended 8 s }
@@ -22,7 +22,7 @@ pub(crate) fn extend_halfword(s: u64) -> u64
 pub(crate) fn extend_word(s: u64) -> u64
     ensures { result ≡ extended 32 s }
 {
-    sign_extend(s & 0xffff_ffff, 32)
+    sign_extend(u64::from(low_word(s)), 32)
 }
 
 /// How far a register shifts a word: its bits 58:63.
@@ -52,7 +52,7 @@ pub(crate) fn shift_word_right(s: u64, n: u8) -> u64
     requires { n < 64 }
     ensures { result ≡ shifted_right 32 s n }
 {
-    (s & 0xffff_ffff) >> n
+    u64::from(low_word(s)) >> n
 }
 
 pub(crate) fn shift_left(s: u64, n: u8) -> u64
@@ -73,22 +73,6 @@ pub(crate) fn shift_extended_word(s: u64, n: u8) -> u64
     ensures { result ≡ shifted_extended 32 s n }
 {
     extend_word(s) << n
-}
-
-/// The low word as a signed number.
-fn signed_word(s: u64) -> i128
-    ensures value { result ≡ low_signed 32 s }
-    ensures range { FitsSigned w64 result }
-{
-    ((s & 0xffff_ffff) as u32).cast_signed() as i128
-}
-
-/// The doubleword as a signed number.
-fn signed_doubleword(s: u64) -> i128
-    ensures value { result ≡ low_signed 64 s }
-    ensures range { FitsSigned w64 result }
-{
-    s.cast_signed() as i128
 }
 
 /// The quotient by 2^n, rounded down.
@@ -113,7 +97,7 @@ pub(crate) fn shift_signed_word(s: u64, n: u8) -> u64
     requires { n < 64 }
     ensures { result ≡ shifted_signed 32 s n }
 {
-    quotient(signed_word(s), n)
+    quotient(i128::from(signed_word(s)), n)
 }
 
 /// The signed doubleword shifted right.
@@ -129,7 +113,7 @@ pub(crate) fn word_loses_one(s: u64, n: u8) -> bool
     requires { n < 64 }
     ensures { result ≡ loses_one 32 s n }
 {
-    signed_word(s) < 0 && has_one_below(s & 0xffff_ffff, n)
+    signed_word(s) < 0 && has_one_below(u64::from(low_word(s)), n)
 }
 
 /// Whether the shift of the signed doubleword is of a negative number and loses a 1.

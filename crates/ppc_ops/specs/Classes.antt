@@ -1,3 +1,4 @@
+-- Written by tools/make_tables.py from docs/INSTRUCTIONS.md.
 -- Classes of operations.
 use Rattle.std.specs.Prelude.{Bool, true, false}
 use Rattle.ppc_ops.specs.declared.op.Op.{Op}

@@ -1,6 +1,6 @@
 -- What instructions leave beside a value.
 use Rattle.std.specs.Prelude.{ℕ, ◌+◌, ◌-◌, ◌*◌, ◌^◌, ◌==◌, pos, int_lt, Bool, true, false, if◌then◌else◌}
-use Rattle.ppc_bits.specs.Bits.{bit, signed_of}
+use Rattle.ppc_bits.specs.Bits.{is_set, signed_of}
 use Rattle.ppc_ops.specs.declared.results.Xer.{Xer}
 
 abbrev pub one : Bool → ℕ
@@ -15,17 +15,13 @@ field_of_order less equal so = (if less then 8 else (if equal then 2 else 4)) + 
 abbrev pub record_of : ℕ → Bool → ℕ
 record_of value so = field_of_order (int_lt (signed_of 64 value) (pos 0)) (value == 0) so
 
--- bit i of a register of 64 bits is 1
-abbrev pub is_set : ℕ → ℕ → Bool
-is_set n i = bit 64 n i == 1
-
 -- the weight of bit i of a register of 64 bits, where it is 1
 abbrev pub weight : Bool → ℕ → ℕ
 weight b i = one b * 2 ^ (63 - i)
 
 -- the bits of the exception register that are kept: SO, OV and CA are bits 32 to 34, OV32 and CA32 bits 44 and 45
 abbrev pub xer_of : ℕ → Xer
-xer_of n = record { so = is_set n 32; ov = is_set n 33; ca = is_set n 34; ov32 = is_set n 44; ca32 = is_set n 45 }
+xer_of n = record { so = is_set 64 n 32; ov = is_set 64 n 33; ca = is_set 64 n 34; ov32 = is_set 64 n 44; ca32 = is_set 64 n 45 }
 
 -- the register with these bits, and zeros elsewhere
 abbrev pub xer_number : Xer → ℕ

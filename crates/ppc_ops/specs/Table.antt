@@ -1,3 +1,4 @@
+-- Written by tools/make_tables.py from docs/INSTRUCTIONS.md.
 -- The instruction table: of each operation the name, the layout of the operands, and the fixed bits of its words.
 use Rattle.std.specs.Prelude.{ℕ, List, [], ◌∷◌, codes, map}
 use Rattle.ppc_ops.specs.declared.op.Op.{Op}

@@ -1,3 +1,4 @@
+// Written by tools/make_tables.py from docs/INSTRUCTIONS.md.
 //! Instructions with their operands.
 
 use crate::op::Op;

@@ -1,3 +1,4 @@
+// Written by tools/make_tables.py from docs/INSTRUCTIONS.md.
 //! The layout of each operation.
 
 ghost use Rattle.std.specs.Prelude.{◌≡◌};

@@ -1,3 +1,4 @@
+// Written by tools/make_tables.py from docs/INSTRUCTIONS.md.
 //! The names of operations.
 
 ghost use Rattle.std.specs.Prelude.{◌≡◌};

@@ -1,3 +1,4 @@
+// Written by tools/make_tables.py from docs/INSTRUCTIONS.md.
 //! The operations of the instruction table.
 
 /// An operation of the instruction table.

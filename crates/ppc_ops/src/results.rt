@@ -1,9 +1,9 @@
 //! What fixed-point instructions leave.
 
-ghost use Rattle.std.specs.Prelude.{◌≡◌, ◌<◌};
+ghost use Rattle.std.specs.Prelude.{◌≡◌};
 ghost use Rattle.ppc_ops.specs.Results as results;
 
-use ppc_bits::field;
+use ppc_bits::is_set;
 
 /// The bits of the fixed-point exception register that are kept (Power ISA, Book I, 3.2.2).
 #[derive(Clone, Copy, Debug, Default, PartialEq, Eq)]
@@ -20,25 +20,17 @@ pub struct Xer {
     pub ca32: bool,
 }
 
-/// Whether a bit of a register is 1.
-fn is_set(register: u64, at: u8) -> bool
-    requires { at < 64 }
-    ensures { result ≡ results.is_set register at }
-{
-    field(register, 64, at, at) == 1
-}
-
 impl Xer {
     /// The bits of the register that are kept.
     pub fn of(register: u64) -> Xer
         ensures { result ≡ results.xer_of register }
     {
         Xer {
-            so: is_set(register, 32),
-            ov: is_set(register, 33),
-            ca: is_set(register, 34),
-            ov32: is_set(register, 44),
-            ca32: is_set(register, 45),
+            so: is_set(register, 64, 32),
+            ov: is_set(register, 64, 33),
+            ca: is_set(register, 64, 34),
+            ov32: is_set(register, 64, 44),
+            ca32: is_set(register, 64, 45),
         }
     }
 

@@ -1,3 +1,4 @@
+// Written by tools/make_tables.py from docs/INSTRUCTIONS.md.
 //! The rows of the instruction table.
 
 use crate::op::Op;

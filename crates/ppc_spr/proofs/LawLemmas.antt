@@ -3,18 +3,17 @@ use Rattle.std.proofs.Common.{◌≡◌, ℕ, ◌-◌, ◌<◌, min, max, cond, 
 use Rattle.std.specs.Prelude.{Ok, Err, IfOk}
 use Rattle.std.proofs.lemmas.Bool.Decides.{nat_tests}
 use Rattle.std.proofs.lemmas.Nat.Bits.{bit_at-lt}
-use Rattle.ppc_bits.specs.Bits.{bit, word_of}
+use Rattle.ppc_bits.specs.Bits.{bit, word_of, is_among, is_set}
 use Rattle.ppc_bits.proofs.Words.{weights_bit}
 use Rattle.ppc_spr.specs.declared.msr.Msr.{Msr}
 use Rattle.ppc_spr.specs.declared.msr.Hyper.{Hyper}
 use Rattle.ppc_spr.specs.declared.msr.Hyper.TheVariants.{Keep, Raise, RaiseKeepRi, KeepRi}
-use Rattle.ppc_spr.specs.MsrBits as at
-use Rattle.ppc_spr.specs.MsrBits.{is_among, is_set}
+use Rattle.ppc_bits.specs.MachineStateBits as at
 use Rattle.ppc_spr.specs.Profile.{may_be, is_in_profile, msr_of, outside_of, profiled}
 use Rattle.ppc_spr.specs.Msrs.{hv, pr, ee, ir, dr, put_bit, saved_bit, mtmsrd_bit, mtmsr_bit, enabled_bit, rfid_bit, hrfid_bit, interrupt_bit, raises, keeps_ri, after_mtmsrd, after_mtmsr, after_rfid}
 use Rattle.ppc_spr.specs.Laws.{GainsNoHypervisor, ConfinesProblem, IsProfiled}
 use Rattle.ppc_spr.proofs.Bitwise.{same_below}
-use Rattle.ppc_spr.proofs.Profile.{all_hold, each_holds}
+use Rattle.ppc_spr.proofs.FixedBits.{all_hold, each_holds}
 
 -- ---- a new value by its bits
 
@@ -28,7 +27,7 @@ bit_of_word f are i h = weights_bit 64 (λ j. f (63 - j)) (λ j l. are.each (63 
     back i h = omega arith
 
 -- what the value has at a place
-set_in_word : (f : ℕ → ℕ) → AreBits f → (i : ℕ) → i < 64 → is_set (word_of 64 f) i ≡ eqb (f i) 1
+set_in_word : (f : ℕ → ℕ) → AreBits f → (i : ℕ) → i < 64 → is_set 64 (word_of 64 f) i ≡ eqb (f i) 1
 set_in_word f are i h = ap (λ b. eqb b 1) (bit_of_word f are i h)
 
 -- what holds of the value holds of an accepted one
@@ -94,12 +93,12 @@ hrfid_bits hsrr1 = record { each = put_lt (λ k. saved_bit hsrr1 k) (saved_bits 
 rfid_bits : (old srr1 : ℕ) → AreBits (λ i. rfid_bit old srr1 i)
 rfid_bits old srr1 = record { each = each_lt }
   where
-    me_lt : cond (is_set old at.hv) (bit 64 srr1 at.me) (bit 64 old at.me) < 2
-    me_lt = cond_lt (is_set old at.hv) (bit 64 srr1 at.me) (bit 64 old at.me) (one_bit srr1 at.me) (one_bit old at.me)
+    me_lt : cond (is_set 64 old at.hv) (bit 64 srr1 at.me) (bit 64 old at.me) < 2
+    me_lt = cond_lt (is_set 64 old at.hv) (bit 64 srr1 at.me) (bit 64 old at.me) (one_bit srr1 at.me) (one_bit old at.me)
 
     each_lt : (i : ℕ) → rfid_bit old srr1 i < 2
     each_lt i = cond_lt (eqb i at.hv) (min (bit 64 old at.hv) (bit 64 srr1 at.hv)) _ (min_lt (bit 64 old at.hv) (bit 64 srr1 at.hv) (one_bit old at.hv) (one_bit srr1 at.hv))
-        (cond_lt (eqb i at.me) (cond (is_set old at.hv) (bit 64 srr1 at.me) (bit 64 old at.me)) (put_bit (λ k. saved_bit srr1 k) i) me_lt (put_lt (λ k. saved_bit srr1 k) (saved_bits srr1) i))
+        (cond_lt (eqb i at.me) (cond (is_set 64 old at.hv) (bit 64 srr1 at.me) (bit 64 old at.me)) (put_bit (λ k. saved_bit srr1 k) i) me_lt (put_lt (λ k. saved_bit srr1 k) (saved_bits srr1) i))
 
 interrupt_bits : (old : ℕ) (h : Hyper) → AreBits (λ i. interrupt_bit old h i)
 interrupt_bits old h = record { each = each_lt }
@@ -140,7 +139,7 @@ IsConfining f i = eqb (f at.pr) 1 ≡ true → eqb (f i) 1 ≡ true
 confines : (f : ℕ → ℕ) → AreBits f → IsConfining f at.ee → IsConfining f at.ir → IsConfining f at.dr → ConfinesProblem (profiled (word_of 64 f))
 confines f are on_ee on_ir on_dr = if_ok (word_of 64 f) (λ m. pr m ≡ true → (ee m ≡ true) × (ir m ≡ true) × (dr m ≡ true)) named
   where
-    named : is_set (word_of 64 f) 49 ≡ true → (is_set (word_of 64 f) 48 ≡ true) × (is_set (word_of 64 f) 58 ≡ true) × (is_set (word_of 64 f) 59 ≡ true)
+    named : is_set 64 (word_of 64 f) 49 ≡ true → (is_set 64 (word_of 64 f) 48 ≡ true) × (is_set 64 (word_of 64 f) 58 ≡ true) × (is_set 64 (word_of 64 f) 59 ≡ true)
     named p =
         let one : eqb (f 49) 1 ≡ true = sym (set_in_word f are 49 (omega arith)) ∙ p in (
           set_in_word f are 48 (omega arith) ∙ on_ee one,
@@ -173,13 +172,13 @@ hrfid_confines hsrr1 = put_confines (λ i. hrfid_bit hsrr1 i) (λ k. saved_bit h
 
 -- ---- an interrupt
 
-pub interrupt_clears : (old : ℕ) (h : Hyper) (i : ℕ) → i < 64 → is_among (at.ee ∷ at.pr ∷ at.ir ∷ at.dr ∷ []) i ≡ true → is_set (word_of 64 (λ k. interrupt_bit old h k)) i ≡ false
+pub interrupt_clears : (old : ℕ) (h : Hyper) (i : ℕ) → i < 64 → is_among (at.ee ∷ at.pr ∷ at.ir ∷ at.dr ∷ []) i ≡ true → is_set 64 (word_of 64 (λ k. interrupt_bit old h k)) i ≡ false
 interrupt_clears old h i b e = set_in_word (λ k. interrupt_bit old h k) (interrupt_bits old h) i b ∙ rw e refl
 
-pub interrupt_raises : (old : ℕ) (h : Hyper) → is_set (word_of 64 (λ k. interrupt_bit old h k)) 3 ≡ (raises h || is_set old 3)
+pub interrupt_raises : (old : ℕ) (h : Hyper) → is_set 64 (word_of 64 (λ k. interrupt_bit old h k)) 3 ≡ (raises h || is_set 64 old 3)
 interrupt_raises old h = set_in_word (λ k. interrupt_bit old h k) (interrupt_bits old h) 3 (omega arith) ∙ by_kind h
   where
-    by_kind : (h : Hyper) → eqb (interrupt_bit old h 3) 1 ≡ (raises h || is_set old 3)
+    by_kind : (h : Hyper) → eqb (interrupt_bit old h 3) 1 ≡ (raises h || is_set 64 old 3)
     by_kind Keep = refl
     by_kind Raise = refl
     by_kind RaiseKeepRi = refl

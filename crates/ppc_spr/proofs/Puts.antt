@@ -4,9 +4,8 @@ use Rattle.std.specs.Int.{w64, bit_not}
 use Rattle.std.proofs.lemmas.Bool.Decides.{nat_tests}
 use Rattle.std.proofs.lemmas.Nat.{or_lt}
 use Rattle.std.proofs.lemmas.Nat.Bits.{bit_at_or, bit_at-lt}
-use Rattle.ppc_bits.specs.Bits.{bit, word_of}
-use Rattle.ppc_spr.specs.MsrBits as at
-use Rattle.ppc_spr.specs.MsrBits.{is_among, is_set}
+use Rattle.ppc_bits.specs.Bits.{bit, word_of, is_among, is_set}
+use Rattle.ppc_bits.specs.MachineStateBits as at
 use Rattle.ppc_spr.specs.declared.msr.Hyper.{Hyper}
 use Rattle.ppc_spr.specs.declared.msr.Hyper.TheVariants.{Keep, Raise, RaiseKeepRi, KeepRi}
 use Rattle.ppc_spr.specs.Joining.{joined_bit}
@@ -47,14 +46,14 @@ joined_lt kept old new i = picked (eqb (bit 64 kept i) 1) (bit_at-lt old (63 - i
     picked false h l = l
 
 pub put_is : (old kept new : ℕ) → old < 2 ^ 64 → kept < 2 ^ 64 → new < 2 ^ 64
-    → bit_or (bit_or (bit_and old kept) (bit_and new (bit_not w64 kept))) (forced_of (is_set new at.pr)) ≡ word_of 64 (λ i. joined_bit kept (λ k. bit 64 old k) (λ k. bit 64 new k) i)
+    → bit_or (bit_or (bit_and old kept) (bit_and new (bit_not w64 kept))) (forced_of (is_set 64 new at.pr)) ≡ word_of 64 (λ i. joined_bit kept (λ k. bit 64 old k) (λ k. bit 64 new k) i)
 put_is old kept new h k l =
-    word_is (bit_or (bit_or (bit_and old kept) (bit_and new (bit_not w64 kept))) (forced_of (is_set new at.pr))) (λ i. joined_bit kept (λ k. bit 64 old k) (λ k. bit 64 new k) i)
-    (or_lt 64 (bit_or (bit_and old kept) (bit_and new (bit_not w64 kept))) (forced_of (is_set new at.pr)) (choice_lt old kept new h l) (forced_lt (is_set new at.pr)))
-    (λ i b. bit_at_or (bit_or (bit_and old kept) (bit_and new (bit_not w64 kept))) (forced_of (is_set new at.pr)) (63 - i)
-    ∙ ap (λ n. max n (bit 64 (forced_of (is_set new at.pr)) i)) (choice_bit old kept new i k b)
-    ∙ ap (max (cond (eqb (bit 64 kept i) 1) (bit 64 old i) (bit 64 new i))) (forced_bit (is_set new at.pr) i b)
-    ∙ either_way (is_forced i) (is_set new at.pr) (cond (eqb (bit 64 kept i) 1) (bit 64 old i) (bit 64 new i)) (bit 64 new at.pr) (joined_lt kept old new i) (bit_at-lt new 14) refl)
+    word_is (bit_or (bit_or (bit_and old kept) (bit_and new (bit_not w64 kept))) (forced_of (is_set 64 new at.pr))) (λ i. joined_bit kept (λ k. bit 64 old k) (λ k. bit 64 new k) i)
+    (or_lt 64 (bit_or (bit_and old kept) (bit_and new (bit_not w64 kept))) (forced_of (is_set 64 new at.pr)) (choice_lt old kept new h l) (forced_lt (is_set 64 new at.pr)))
+    (λ i b. bit_at_or (bit_or (bit_and old kept) (bit_and new (bit_not w64 kept))) (forced_of (is_set 64 new at.pr)) (63 - i)
+    ∙ ap (λ n. max n (bit 64 (forced_of (is_set 64 new at.pr)) i)) (choice_bit old kept new i k b)
+    ∙ ap (max (cond (eqb (bit 64 kept i) 1) (bit 64 old i) (bit 64 new i))) (forced_bit (is_set 64 new at.pr) i b)
+    ∙ either_way (is_forced i) (is_set 64 new at.pr) (cond (eqb (bit 64 kept i) 1) (bit 64 old i) (bit 64 new i)) (bit 64 new at.pr) (joined_lt kept old new i) (bit_at-lt new 14) refl)
 
 -- ---- each instruction's
 
@@ -106,7 +105,7 @@ lower_is a b l e = grind (arith, nat_tests)
 none_is : (a b : ℕ) → a < 2 → eqb a 1 ≡ false → a ≡ min a b
 none_is a b l e = grind (arith, nat_tests)
 
-rfid_case : (old srr1 : ℕ) (p : Bool) → is_set old at.hv ≡ p → (i : ℕ) → i < 64 → back_bit (cond p 0 0x1000_0000_0000_1000) old srr1 i ≡ rfid_bit old srr1 i
+rfid_case : (old srr1 : ℕ) (p : Bool) → is_set 64 old at.hv ≡ p → (i : ℕ) → i < 64 → back_bit (cond p 0 0x1000_0000_0000_1000) old srr1 i ≡ rfid_bit old srr1 i
 rfid_case old srr1 true e i b = host_rfid old srr1 i b
     ∙ ap (λ h. rfid_with h (bit 64 srr1 at.me) srr1 i) (lower_is (bit 64 old at.hv) (bit 64 srr1 at.hv) (bit_at-lt srr1 60) e)
     ∙ ap (λ t. rfid_with (min (bit 64 old at.hv) (bit 64 srr1 at.hv)) (cond t (bit 64 srr1 at.me) (bit 64 old at.me)) srr1 i) (sym e)
@@ -114,9 +113,9 @@ rfid_case old srr1 false e i b = guest_rfid old srr1 i b
     ∙ ap (λ h. rfid_with h (bit 64 old at.me) srr1 i) (none_is (bit 64 old at.hv) (bit 64 srr1 at.hv) (bit_at-lt old 60) e)
     ∙ ap (λ t. rfid_with (min (bit 64 old at.hv) (bit 64 srr1 at.hv)) (cond t (bit 64 srr1 at.me) (bit 64 old at.me)) srr1 i) (sym e)
 
-pub rfid_is : (old srr1 : ℕ) → word_of 64 (λ i. back (cond (is_set old at.hv) 0 0x1000_0000_0000_1000) old srr1 i) ≡ word_of 64 (λ i. rfid_bit old srr1 i)
-rfid_is old srr1 = same_words (λ i. back (cond (is_set old at.hv) 0 0x1000_0000_0000_1000) old srr1 i) (λ i. rfid_bit old srr1 i)
-    (λ i b. back_is (cond (is_set old at.hv) 0 0x1000_0000_0000_1000) old srr1 i b ∙ rfid_case old srr1 (is_set old at.hv) refl i b)
+pub rfid_is : (old srr1 : ℕ) → word_of 64 (λ i. back (cond (is_set 64 old at.hv) 0 0x1000_0000_0000_1000) old srr1 i) ≡ word_of 64 (λ i. rfid_bit old srr1 i)
+rfid_is old srr1 = same_words (λ i. back (cond (is_set 64 old at.hv) 0 0x1000_0000_0000_1000) old srr1 i) (λ i. rfid_bit old srr1 i)
+    (λ i b. back_is (cond (is_set 64 old at.hv) 0 0x1000_0000_0000_1000) old srr1 i b ∙ rfid_case old srr1 (is_set 64 old at.hv) refl i b)
 
 -- ---- an interrupt
 

@@ -1,8 +1,7 @@
 -- What the code's masks join: the old bits where a mask has ones, and the new ones elsewhere.
 use Rattle.std.specs.Prelude.{ℕ, ◌==◌, if◌then◌else◌, [], ◌∷◌}
-use Rattle.ppc_bits.specs.Bits.{bit}
-use Rattle.ppc_spr.specs.MsrBits as at
-use Rattle.ppc_spr.specs.MsrBits.{is_among, either}
+use Rattle.ppc_bits.specs.Bits.{bit, is_among, either}
+use Rattle.ppc_bits.specs.MachineStateBits as at
 
 -- the bit that the mask chooses; EE, IR and DR become 1 where the new PR is 1
 abbrev pub joined_bit : ℕ → (ℕ → ℕ) → (ℕ → ℕ) → ℕ → ℕ

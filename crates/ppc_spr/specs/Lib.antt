@@ -1,6 +1,8 @@
 pub mod Sprs
-pub mod MsrBits
+pub mod FixedBits
 pub mod Profile
+pub mod Lpcr
+pub mod Values
 pub mod Msrs
 pub mod Joining
 pub mod Access

@@ -1,31 +1,30 @@
 -- What each instruction that writes the machine state register, and an interrupt, leave in it (Power ISA, Book III, System
 -- Linkage Instructions; Move To/From System Register Instructions; chapter 6, Interrupts).
 use Rattle.std.specs.Prelude.{ℕ, ◌==◌, nat_le, Bool, true, false, ◌||◌, if◌then◌else◌, [], ◌∷◌, Result}
-use Rattle.ppc_bits.specs.Bits.{bit, word_of, is_within}
+use Rattle.ppc_bits.specs.Bits.{bit, word_of, is_within, is_among, either, both, is_set}
 use Rattle.ppc_spr.specs.declared.msr.Msr.{Msr}
 use Rattle.ppc_spr.specs.declared.msr.ProfileBits.{ProfileBits}
 use Rattle.ppc_spr.specs.declared.msr.Hyper.{Hyper}
 use Rattle.ppc_spr.specs.declared.msr.Hyper.TheVariants.{Keep, Raise, RaiseKeepRi, KeepRi}
-use Rattle.ppc_spr.specs.MsrBits as at
-use Rattle.ppc_spr.specs.MsrBits.{is_among, either, both, is_set}
+use Rattle.ppc_bits.specs.MachineStateBits as at
 use Rattle.ppc_spr.specs.Profile.{msr_of, profiled}
 
 -- ---- the bits that are read
 
 abbrev pub hv : Msr → Bool
-hv m = is_set m.0 at.hv
+hv m = is_set 64 m.0 at.hv
 
 abbrev pub ee : Msr → Bool
-ee m = is_set m.0 at.ee
+ee m = is_set 64 m.0 at.ee
 
 abbrev pub pr : Msr → Bool
-pr m = is_set m.0 at.pr
+pr m = is_set 64 m.0 at.pr
 
 abbrev pub ir : Msr → Bool
-ir m = is_set m.0 at.ir
+ir m = is_set 64 m.0 at.ir
 
 abbrev pub dr : Msr → Bool
-dr m = is_set m.0 at.dr
+dr m = is_set 64 m.0 at.dr
 
 -- ---- each bit of a new value
 
@@ -59,7 +58,7 @@ hrfid_bit hsrr1 i = put_bit (λ k. saved_bit hsrr1 k) i
 abbrev pub rfid_bit : ℕ → ℕ → ℕ → ℕ
 rfid_bit old srr1 i =
     if i == at.hv then both (bit 64 old at.hv) (bit 64 srr1 at.hv)
-    else (if i == at.me then (if is_set old at.hv then bit 64 srr1 at.me else bit 64 old at.me)
+    else (if i == at.me then (if is_set 64 old at.hv then bit 64 srr1 at.me else bit 64 old at.me)
     else put_bit (λ k. saved_bit srr1 k) i)
 
 -- an interrupt enters hypervisor state

@@ -1,9 +1,8 @@
 //! The machine state register: what each instruction that writes it, and an interrupt, leave (Power ISA, Book III, 3.2.1).
 
 ghost use Rattle.std.specs.Prelude.{◌≡◌, if◌then◌else◌};
-ghost use Rattle.ppc_bits.specs.Bits.{bit, word_of};
-ghost use Rattle.ppc_spr.specs.MsrBits as at;
-ghost use Rattle.ppc_spr.specs.MsrBits.{is_set};
+ghost use Rattle.ppc_bits.specs.Bits.{bit, word_of, is_set};
+ghost use Rattle.ppc_bits.specs.MachineStateBits as at;
 ghost use Rattle.ppc_spr.specs.Msrs as msrs;
 ghost use Rattle.ppc_spr.specs.Joining.{joined_bit};
 ghost use Rattle.ppc_spr.specs.Profile as profile;
@@ -69,7 +68,7 @@ fn profiled(value: u64) -> Result<Msr, ProfileBits>
 
 /// EE, IR and DR where the value has PR, else none.
 fn forced(new: u64) -> u64
-    ensures { result ≡ (if is_set new at.pr then 0x8030 else 0) }
+    ensures { result ≡ (if is_set 64 new at.pr then 0x8030 else 0) }
 {
     if Msr(new).is_problem() {
         EE | IR | DR

@@ -1,6 +1,6 @@
 use Rattle.std.proofs.Common.{ap, ◌∙◌, ◌*◌, ◌%◌, ◌^◌}
 use Rattle.std.proofs.lemmas.Nat.{pow_pos}
-use Rattle.fixed_logic.specs.Shifts.{low_signed}
+use Rattle.ppc_bits.specs.Bits.{low_signed}
 use Rattle.fixed_logic.proofs.ShiftLemmas.{product_is}
 use Rattle.fixed_logic.proofs.shifts.shift_extended_word.Goals as goal
 
