@@ -1,5 +1,5 @@
 #!/usr/bin/env python3
-"""Writes the files of `ppc_ops`, `ppc_words` and `ppc_decode` that repeat the instruction table of docs/INSTRUCTIONS.md.
+"""Writes the files of `ppc_ops`, `word_decoder` and `ppc_decode` that repeat the instruction table of docs/INSTRUCTIONS.md.
 
 With `--check` it writes nothing, and fails where a file is not what the table gives.
 """
@@ -298,11 +298,17 @@ def all_files(table):
     return files
 
 
+def first_line(name):
+    """The line that says what writes a file, and from what."""
+    mark = "//" if name.endswith(".rt") else "--"
+    return f"{mark} Written by tools/make_tables.py from docs/INSTRUCTIONS.md."
+
+
 def main():
     """Writes or checks each file."""
     wrong = 0
     for name, lines in all_files(read_table(f"{TOP}/docs/INSTRUCTIONS.md")).items():
-        path, text = f"{TOP}/{name}", "\n".join(lines) + "\n"
+        path, text = f"{TOP}/{name}", "\n".join([first_line(name), *lines]) + "\n"
         if "--check" not in sys.argv:
             with open(path, "w", encoding="utf-8") as file:
                 file.write(text)

@@ -1,6 +1,6 @@
 """Writes the branches on opcodes by which the decoder finds a row, and the proofs that they find the row of the table."""
 
-WORDS = "crates/ppc_words"
+WORDS = "crates/word_decoder"
 BLOCK = 256  # how many keys of opcode 31 one proof computes
 
 # Primary opcodes with extended ones, and the last bits of a word that these stand in: how many, and how many follow.
@@ -94,8 +94,8 @@ def opcodes_file(table):
         "//! Branches on opcodes.",
         "",
         "ghost use Rattle.std.specs.Prelude.{◌≡◌, ◌<◌, ◌^◌};",
-        "ghost use Rattle.ppc_words.specs.Find.{op_at};",
-        "ghost use Rattle.ppc_words.specs.Opcodes as branches;",
+        "ghost use Rattle.word_decoder.specs.Find.{op_at};",
+        "ghost use Rattle.word_decoder.specs.Opcodes as branches;",
         "",
         "use ppc_bits::field;",
         "use ppc_ops::Op;",
@@ -237,9 +237,9 @@ def branches_proof():
         "use Rattle.std.proofs.Common.{◌≡◌, ℕ, ◌+◌, ◌*◌, ◌/◌, ◌%◌, ◌^◌, ◌<◌, true, Option, refl, sym, ap, ◌∙◌, arith}",
         "use Rattle.ppc_ops.specs.declared.op.Op.{Op}",
         "use Rattle.ppc_ops.specs.Table.{rows}",
-        "use Rattle.ppc_words.specs.Find.{find_op, op_at}",
-        f"use Rattle.ppc_words.specs.Opcodes.{{{functions}}}",
-        "use Rattle.ppc_words.proofs.Keys.{of_primary, masks_in, op_in_primary, values, same_below, further, field_key, word_key, two_parts}",
+        "use Rattle.word_decoder.specs.Find.{find_op, op_at}",
+        f"use Rattle.word_decoder.specs.Opcodes.{{{functions}}}",
+        "use Rattle.word_decoder.proofs.Keys.{of_primary, masks_in, op_in_primary, values, same_below, further, field_key, word_key, two_parts}",
     ]
     for primary in EXTENDED:
         lines += extended_proof(primary)

@@ -4,7 +4,7 @@ import re
 import textwrap
 
 OPS = "crates/ppc_ops"
-WORDS = "crates/ppc_words"
+WORDS = "crates/word_decoder"
 HELPER_NAMES = [
     "bits",
     "flag",
@@ -119,7 +119,7 @@ def layout_function(layout):
         "    requires word { word < 2 ^ 32 }",
         *([f"    requires op {{ layout_of op ≡ layouts.{layout.name} }}"] if layout.has_op else []),
         f"    ensures form {{ result ≡ operands_of layouts.{layout.name} {op} word }}",
-        "    ensures fits { Fits result }",
+        "    ensures fits { FitsFields result }",
         "{",
         f"    Insn::{layout.name} {{",
         *fields,
@@ -151,8 +151,8 @@ def operands_file(table):
         "ghost use Rattle.ppc_ops.specs.declared.insn.Layout.TheVariants as layouts;",
         f"ghost use Rattle.ppc_ops.specs.declared.op.Op.TheVariants.{{{', '.join(alone)}}};",
         "ghost use Rattle.ppc_ops.specs.Table.{layout_of};",
-        "ghost use Rattle.ppc_ops.specs.Fitting.{Fits};",
-        "ghost use Rattle.ppc_words.specs.Operands.{operands_of};",
+        "ghost use Rattle.ppc_ops.specs.Fitting.{FitsFields};",
+        "ghost use Rattle.word_decoder.specs.Operands.{operands_of};",
         "",
         *import_lines("crate::fields", HELPER_NAMES),
         "use ppc_bits::field;",
@@ -167,7 +167,7 @@ def operands_file(table):
         "pub(crate) fn operands(op: Op, word: u64) -> Insn",
         "    requires { word < 2 ^ 32 }",
         "    ensures form { result ≡ operands_of (layout_of op) op word }",
-        "    ensures fits { Fits result }",
+        "    ensures fits { FitsFields result }",
         "{",
         "    match layout(op) {",
         *[layout_arm(layout) for layout in table.layouts],
@@ -180,8 +180,8 @@ def operands_spec(table):
     """The definition of the operands."""
     lines = [
         "-- The operands of each layout, by the bits of the word, bit 0 the highest of 32.",
-        "use Rattle.std.specs.Prelude.{ℕ, ◌+◌, ◌*◌, ◌^◌, ◌==◌, Bool, false, if◌then◌else◌, pos}",
-        "use Rattle.ppc_bits.specs.Bits.{field_of, signed_of}",
+        "use Rattle.std.specs.Prelude.{ℕ, ◌+◌, ◌*◌, ◌^◌, Bool, false, if◌then◌else◌, pos}",
+        "use Rattle.ppc_bits.specs.Bits.{field_of, is_set, signed_of}",
         "use Rattle.ppc_ops.specs.declared.op.Op.{Op}",
         "use Rattle.ppc_ops.specs.declared.insn.Insn.{Insn}",
         "use Rattle.ppc_ops.specs.declared.insn.Insn.TheVariants as insn",
@@ -195,7 +195,7 @@ def operands_spec(table):
         "",
         "-- bit i is 1",
         "abbrev pub flag : ℕ → ℕ → Bool",
-        "flag word i = bits word i i == 1",
+        "flag word i = is_set 32 word i",
         "",
         "-- a number followed by n more bits",
         "abbrev pub followed : ℕ → ℕ → ℕ → ℕ",
@@ -266,12 +266,12 @@ def fitting_spec(table):
         "IsCompared false z = IsSigned 16 z",
         "",
         "-- the operation is one of the layout's, and each operand fits its field",
-        "abbrev pub Fits : Insn → Type 0",
+        "abbrev pub FitsFields : Insn → Type 0",
     ]
     for layout in table.layouts:
         names = (["op"] if layout.has_op else []) + [f.name for f in layout.fields]
         insn = " ".join([f"insn.{layout.name}"] + names)
-        lines.append(f"Fits {f'({insn})' if names else insn} = {fit_of_layout(layout)}")
+        lines.append(f"FitsFields {f'({insn})' if names else insn} = {fit_of_layout(layout)}")
     return lines
 
 

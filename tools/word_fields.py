@@ -210,8 +210,8 @@ def layout_word(layout):
         "",
         f"fn {snake(layout.name)}({', '.join(given)}) -> Result<u32, OutOfField>",
         f"    ensures word {{ IfOk result (λ w. w ≡ (op_row {op}).value + value_of (fields_of {insn})) }}",
-        f"    ensures fits {{ IsOk result → Fits {insn} }}",
-        f"    ensures refused {{ IsErr result → Fits {insn} → ⊥ }}",
+        f"    ensures fits {{ IsOk result → FitsFields {insn} }}",
+        f"    ensures refused {{ IsErr result → FitsFields {insn} → ⊥ }}",
         "{",
         *[line for f in layout.fields for line in code_of_end(f)],
         *test_lines(tests),
@@ -244,13 +244,13 @@ def layouts_file(table):
         "ghost use Rattle.std.specs.Prelude.{◌≡◌, ◌+◌, IfOk, IsOk, IsErr};",
         "ghost use Rattle.ppc_ops.specs.declared.insn.Insn.TheVariants as insn;",
         f"ghost use Rattle.ppc_ops.specs.declared.op.Op.TheVariants.{{{', '.join(alone)}}};",
-        "ghost use Rattle.ppc_ops.specs.Fitting.{Fits};",
+        "ghost use Rattle.ppc_ops.specs.Fitting.{FitsFields};",
         "ghost use Rattle.ppc_ops.specs.Rows.{value_of};",
         "ghost use Rattle.ppc_ops.specs.Table.{op_row};",
         "ghost use Rattle.ppc_decode.specs.Encode.{insn_op, fields_of};",
         "",
+        "use crate::encoder::OutOfField;",
         *import_lines("crate::fields", HELPER_NAMES),
-        "use crate::words::OutOfField;",
         *import_lines("ppc_ops", sorted(["Insn", "Layout", "Op"] + classes)),
     ]
     for layout in table.layouts:
@@ -261,8 +261,8 @@ def layouts_file(table):
         "/// The fixed bits and the fields of an instruction whose operands fit.",
         "pub(crate) fn word(insn: Insn) -> Result<u32, OutOfField>",
         "    ensures word { IfOk result (λ w. w ≡ (op_row (insn_op insn)).value + value_of (fields_of insn)) }",
-        "    ensures fits { IsOk result → Fits insn }",
-        "    ensures refused { IsErr result → Fits insn → ⊥ }",
+        "    ensures fits { IsOk result → FitsFields insn }",
+        "    ensures refused { IsErr result → FitsFields insn → ⊥ }",
         "{",
         "    match insn {",
         *[line for layout in table.layouts for line in word_arm(layout)],
@@ -275,5 +275,5 @@ def word_files(table):
     """All files on the words of forms."""
     return {
         f"{ENCODE}/specs/Encode.antt": words_spec(table),
-        f"{ENCODE}/src/layouts.rt": layouts_file(table),
+        f"{ENCODE}/src/encodings.rt": layouts_file(table),
     }

@@ -9,8 +9,8 @@ use Rattle.ppc_ops.specs.Rows.{Fixed, agrees, AreApart}
 use Rattle.ppc_ops.specs.Table.{entry_of, layout_of, op_row, operations, rows}
 use Rattle.ppc_ops.proofs.Apart.{apart, both, nothing, same_number, some_same}
 use Rattle.ppc_ops.proofs.Listed.{each, number, row_listed, same_op}
-use Rattle.ppc_words.specs.Find.{find_op, op_at}
-use Rattle.ppc_words.specs.Operands.{operands_of}
+use Rattle.word_decoder.specs.Find.{find_op, op_at}
+use Rattle.word_decoder.specs.Operands.{operands_of}
 use Rattle.ppc_decode.specs.Encode.{insn_op, fields_of}
 use Rattle.ppc_decode.proofs.Sums.{Fitted, masks, separate}
 

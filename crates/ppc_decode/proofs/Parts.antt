@@ -8,7 +8,7 @@ use Rattle.std.proofs.lemmas.Bool.Decides.{nat_tests}
 use Rattle.ppc_bits.specs.Bits.{signed_of, modulo}
 use Rattle.ppc_ops.specs.Fitting.{IsSigned, IsSignedMultiple, IsDisplacement, IsCompared}
 use Rattle.ppc_ops.specs.Rows.{Fixed, at}
-use Rattle.ppc_words.specs.Operands.{bits, flag, followed}
+use Rattle.word_decoder.specs.Operands.{bits, flag, followed}
 use Rattle.ppc_decode.proofs.Sums.{Fitted, Reads, masks}
 
 -- equal functions at equal arguments

@@ -1,3 +1,4 @@
+-- Written by tools/make_tables.py from docs/INSTRUCTIONS.md.
 -- The fields of each layout: what is read from a word stands there, and what stands there is read.
 use Rattle.std.proofs.Common.{◌≡◌, ℕ, ◌/◌, ◌^◌, ◌∷◌, refl, sym, ap, ◌∙◌}
 use Rattle.ppc_ops.specs.declared.op.Op.{Op}
@@ -6,10 +7,10 @@ use Rattle.ppc_ops.specs.declared.insn.Insn.TheVariants as insn
 use Rattle.ppc_ops.specs.declared.insn.Layout.{Layout}
 use Rattle.ppc_ops.specs.declared.insn.Layout.TheVariants as layout
 use Rattle.ppc_ops.specs.Classes.{compares_unsigned, has_one_source, scales_displacement, seeks_any_byte, shifts_words, turns_by_register}
-use Rattle.ppc_ops.specs.Fitting.{Fits}
+use Rattle.ppc_ops.specs.Fitting.{FitsFields}
 use Rattle.ppc_ops.specs.Rows.{at}
 use Rattle.ppc_ops.specs.Table.{layout_of}
-use Rattle.ppc_words.specs.Operands.{bits, operands_of}
+use Rattle.word_decoder.specs.Operands.{bits, operands_of}
 use Rattle.ppc_decode.specs.Encode.{insn_op, fields_of}
 use Rattle.ppc_decode.proofs.Sums.{Fitted, Reads, mask, masks}
 use Rattle.ppc_decode.proofs.Parts.{with, flag_fits, flag_back, flag_own, modulo_16_fits, branch_fits, jump_fits, high_fits, half_fits, low_fits, parts_back, high_own, low_own, immediate_back, immediate_own, compared_back, compared_own, branch_back, branch_own, jump_back, jump_own, source_fits, source_back, source_own, distance_fits, distance_back, distance_own, two_fits, two_back, two_own, displacement_fits, displacement_back, displacement_own, split_fits, split_back, split_own, source_places, distance_places, two_places, displacement_places}
@@ -66,7 +67,7 @@ own layout.Hrfid op word = (refl, refl, tt)
 own layout.Sc op word = (refl, refl, (refl, tt))
 
 -- the fields of a form are those of its operation
-pub places : (i : Insn) → Fits i → masks (fields_of i) ≡ masks (fields_of (operands_of (layout_of (insn_op i)) (insn_op i) 0))
+pub places : (i : Insn) → FitsFields i → masks (fields_of i) ≡ masks (fields_of (operands_of (layout_of (insn_op i)) (insn_op i) 0))
 places (insn.AddImm op rt ra si) (same, f_rt, f_ra, f_si) = ap (λ l. masks (fields_of (operands_of l op 0))) (sym same)
 places (insn.AddPc rt d) (f_rt, f_d) = refl
 places (insn.Arith op rt ra rb oe rc) (same, f_rt, f_ra, f_rb) = ap (λ ms. mask (at 6 10 0) ∷ mask (at 11 15 0) ∷ mask (at 21 21 0) ∷ mask (at 31 31 0) ∷ ms) (source_places (has_one_source op) _ _) ∙ ap (λ l. masks (fields_of (operands_of l op 0))) (sym same)
@@ -117,7 +118,7 @@ places insn.Hrfid none = refl
 places (insn.Sc lev) f_lev = refl
 
 -- what stands in the fields of a form fits them
-pub fits : (i : Insn) → Fits i → Fitted (fields_of i)
+pub fits : (i : Insn) → FitsFields i → Fitted (fields_of i)
 fits (insn.AddImm op rt ra si) (same, f_rt, f_ra, f_si) = (f_rt, (f_ra, (modulo_16_fits si, tt)))
 fits (insn.AddPc rt d) (f_rt, f_d) = (f_rt, split_fits d)
 fits (insn.Arith op rt ra rb oe rc) (same, f_rt, f_ra, f_rb) = (f_rt, (f_ra, (flag_fits oe, (flag_fits rc, source_fits (has_one_source op) rb f_rb))))
@@ -168,7 +169,7 @@ fits insn.Hrfid none = tt
 fits (insn.Sc lev) f_lev = (f_lev, tt)
 
 -- a form is read from a word that has its fields
-pub back : (i : Insn) → Fits i → (word : ℕ) → Reads word (fields_of i) → operands_of (layout_of (insn_op i)) (insn_op i) word ≡ i
+pub back : (i : Insn) → FitsFields i → (word : ℕ) → Reads word (fields_of i) → operands_of (layout_of (insn_op i)) (insn_op i) word ≡ i
 back (insn.AddImm op rt ra si) (same, f_rt, f_ra, f_si) word (r1, (r2, (r3, end))) = ap (λ l. operands_of l op word) same ∙ with (with (ap (λ rt ra si. insn.AddImm op rt ra si) r1) r2) (immediate_back si (bits word 16 31) f_si r3)
 back (insn.AddPc rt d) (f_rt, f_d) word (r1, r2) = with (ap (λ rt d. insn.AddPc rt d) r1) (split_back d word f_d r2)
 back (insn.Arith op rt ra rb oe rc) (same, f_rt, f_ra, f_rb) word (r1, (r2, (r4, (r5, r3)))) = ap (λ l. operands_of l op word) same ∙ with (with (with (with (ap (λ rt ra rb oe rc. insn.Arith op rt ra rb oe rc) r1) r2) (source_back (has_one_source op) rb word f_rb r3)) (flag_back oe (bits word 21 21) r4)) (flag_back rc (bits word 31 31) r5)

@@ -4,15 +4,15 @@ use Rattle.std.specs.Prelude.{bit_and, Result, Ok, Err, IfOk, IsOk}
 use Rattle.std.proofs.lemmas.Bool.Decides.{nat_tests}
 use Rattle.ppc_ops.specs.declared.op.Op.{Op}
 use Rattle.ppc_ops.specs.declared.insn.Insn.{Insn}
-use Rattle.ppc_ops.specs.Fitting.{Fits}
+use Rattle.ppc_ops.specs.Fitting.{FitsFields}
 use Rattle.ppc_ops.specs.Forms.{is_invalid}
 use Rattle.ppc_ops.specs.Rows.{Fixed, agrees, mask_of, value_of}
 use Rattle.ppc_ops.specs.Table.{layout_of, op_row, rows}
 use Rattle.ppc_ops.proofs.Apart.{nothing, same_number}
-use Rattle.ppc_words.specs.declared.decoded.Decoded.TheVariants.{Form, Zero, InvalidForm, Unsupported}
-use Rattle.ppc_words.specs.Decode.{decoded_as, decoded_of, judged}
-use Rattle.ppc_words.specs.Find.{find_op, op_at}
-use Rattle.ppc_words.specs.Operands.{operands_of}
+use Rattle.word_decoder.specs.declared.decoded.Decoded.TheVariants.{Form, Zero, InvalidForm, Unsupported}
+use Rattle.word_decoder.specs.Decode.{decoded_as, decoded_of, judged}
+use Rattle.word_decoder.specs.Find.{find_op, op_at}
+use Rattle.word_decoder.specs.Operands.{operands_of}
 use Rattle.ppc_decode.specs.Encode.{insn_op, fields_of, word_for, used_of}
 use Rattle.ppc_decode.proofs.Sums.{Fitted, Reads, masks, separate, within, sum_of_reads, reads_of_sum, mask_both, value_both, masks_both, fitted_both, reads_both, reads_first, reads_second}
 use Rattle.ppc_decode.proofs.Found.{fixed_of, fields_at, agrees_of_op, fixed_fit, not_true, op_kept, op_of_agrees, own_bits, own_fixed_bits}
@@ -39,7 +39,7 @@ decoded_from word op i found same valid =
     ∙ ap (judged op) same
     ∙ ap (λ t. cond t (InvalidForm op) (Form i)) valid
 
-pub encoded : (i : Insn) → Fits i → is_invalid i ≡ false → decoded_of (word_for i) ≡ Form i
+pub encoded : (i : Insn) → FitsFields i → is_invalid i ≡ false → decoded_of (word_for i) ≡ Form i
 unfolding word_for
 encoded i fit valid =
     let apart : separate (masks (fixed_of (insn_op i) ++ fields_of i)) ≡ true = all_apart (insn_op i) (fields_of i) (places i fit) in
@@ -52,7 +52,7 @@ encoded i fit valid =
     decoded_from (word_for i) (insn_op i) i (op_of_agrees (insn_op i) (word_for i) agree)
     (back i fit (word_for i) (reads_second (word_for i) (fixed_of (insn_op i)) (fields_of i) reads)) valid
 
-pub each_encoded : {E : Type 0} (i : Insn) (r : Result ℕ E) → is_invalid i ≡ false → (IsOk r → Fits i) → IfOk r (λ w. w ≡ (op_row (insn_op i)).value + value_of (fields_of i)) → IfOk r (λ w. decoded_of w ≡ Form i)
+pub each_encoded : {E : Type 0} (i : Insn) (r : Result ℕ E) → is_invalid i ≡ false → (IsOk r → FitsFields i) → IfOk r (λ w. w ≡ (op_row (insn_op i)).value + value_of (fields_of i)) → IfOk r (λ w. decoded_of w ≡ Form i)
 unfolding word_for
 each_encoded i (Ok w) valid fit e = ap decoded_of e ∙ encoded i (fit refl) valid
 each_encoded i (Err x) valid fit e = tt

@@ -1,3 +1,4 @@
+-- Written by tools/make_tables.py from docs/INSTRUCTIONS.md.
 -- The word of a form, bit 0 the highest of 32.
 use Rattle.std.specs.Prelude.{ℕ, ◌+◌, ◌/◌, ◌%◌, ◌^◌, if◌then◌else◌, List, [], ◌∷◌}
 use Rattle.std.specs.Int.{from_bool}

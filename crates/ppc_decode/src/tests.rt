@@ -3,8 +3,8 @@ mod cases;
 use super::*;
 use cases::WORDS;
 use ppc_ops::{Insn, Op, row, row_count};
-use ppc_words::{Decoded, decode};
 use std::process::Abort;
+use word_decoder::{Decoded, decode};
 
 /// The form that a word means.
 fn form(rt: &impl Abort, word: u32) -> Insn {
