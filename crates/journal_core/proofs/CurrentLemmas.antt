@@ -5,7 +5,8 @@ use Rattle.std.specs.List.{AllByRecursion}
 use Rattle.journal_core.specs.declared.rows.ReadRow.{ReadRow}
 use Rattle.journal_core.specs.declared.rows.DoneRow.{DoneRow}
 use Rattle.journal_core.specs.Covers.{ends_reading, IsCurrent}
-use Rattle.journal_core.specs.KeptLaws.{NoneEnds, AreFrom}
+use Rattle.journal_core.specs.Covers.{NoneEnds}
+use Rattle.journal_core.specs.Translating.{AreFrom}
 
 -- no completion of a step below n ends the use of a reading
 abbrev pub IsKept : List DoneRow → ℕ → ℕ → ReadRow → Type 0

@@ -7,9 +7,10 @@ use Rattle.journal_core.specs.declared.rows.ReadRow.{ReadRow}
 use Rattle.journal_core.specs.declared.rows.FillRow.{FillRow}
 use Rattle.journal_core.specs.Rows.{Rows}
 use Rattle.journal_core.specs.Covers.{IsCurrent}
-use Rattle.journal_core.specs.Standing.{fill_reads, AreRows, AreNamed, is_same_set, IsStanding}
-use Rattle.journal_core.specs.KeptLaws.{GoesOn}
+use Rattle.journal_core.specs.Turns.{turn_of}
+use Rattle.journal_core.specs.Standing.{fill_reads, AreRows, IsNamed, AreNamed, is_same_set, IsStanding}
 use Rattle.journal_core.proofs.CurrentLemmas.{current_with_later, current_without_later}
+use Rattle.journal_core.specs.Translating.{GoesOn}
 
 nothing : {X : Type 0} (x : X) → None ≡ Some x → ⊥
 nothing x e = cc
@@ -57,7 +58,7 @@ all_mapped P Q on (x ∷ xs) all = (on x all.0, all_mapped P Q on xs all.1)
 pub same_fills : (old new : Rows) (n c : ℕ) → GoesOn n old new → c ≤ length old.fills → take c new.fills ≡ take c old.fills
 same_fills old new n c on within = ap (take c) on.fills ∙ take-append-le c old.fills on.more_fills within
 
-unfoldable pub standing_goes_on : (old new : Rows) (floor t n c i : ℕ) (f : FillRow) → GoesOn n old new → c ≤ length old.fills → IsStanding old floor t n c i f → IsStanding new floor t n c i f
+unfoldable pub standing_goes_on : (old new : Rows) (floor t n c i : ℕ) (f : FillRow) → GoesOn n old new → c ≤ length old.fills → IsStanding (turn_of old floor t n) c i f → IsStanding (turn_of new floor t n) c i f
 standing_goes_on old new floor t n c i f on within h =
     record {
       is = ap (λ xs. slice_get xs i) on.fills ∙ at_front old.fills on.more_fills i f h.is;
@@ -72,12 +73,12 @@ standing_goes_on old new floor t n c i f on within h =
           (all_mapped (IsCurrent old.dones t n) (IsCurrent (old.dones ++ on.more_dones) t n) (λ r. current_with_later old.dones on.more_dones t n r on.later) h.readings h.current);
     }
 
-unfoldable pub standing_goes_back : (old new : Rows) (floor t n c i : ℕ) (f : FillRow) → GoesOn n old new → c ≤ length old.fills → AreNamed old.reads old.fills → IsStanding new floor t n c i f → IsStanding old floor t n c i f
+unfoldable pub standing_goes_back : (old new : Rows) (floor t n c i : ℕ) (f : FillRow) → GoesOn n old new → c ≤ length old.fills → AreNamed old.reads old.fills → IsStanding (turn_of new floor t n) c i f → IsStanding (turn_of old floor t n) c i f
 standing_goes_back old new floor t n c i f on within all h =
     let is : slice_get old.fills i ≡ Some f = in_front old.fills on.more_fills i f (omega (arith, h.below, within)) (ap (λ xs. slice_get xs i) (sym on.fills) ∙ h.is) in
-    let named : (rs : List ReadRow) × AreRows old.reads (fill_reads f) rs = all_get (λ g. (rs : List ReadRow) × AreRows old.reads (fill_reads g) rs) old.fills i f all is in
-    let same : named.0 ≡ h.readings = rows_unique (old.reads ++ on.more_reads) (fill_reads f) named.0 h.readings
-    (rows_front old.reads on.more_reads (fill_reads f) named.0 named.1) (subst (λ xs. AreRows xs (fill_reads f) h.readings) on.reads h.named) in
+    let named : IsNamed old.reads f = all_get (IsNamed old.reads) old.fills i f all is in
+    let same : named.readings ≡ h.readings = rows_unique (old.reads ++ on.more_reads) (fill_reads f) named.readings h.readings
+    (rows_front old.reads on.more_reads (fill_reads f) named.readings named.named) (subst (λ xs. AreRows xs (fill_reads f) h.readings) on.reads h.named) in
     record {
       is = is;
       of_thread = h.of_thread;
@@ -86,7 +87,7 @@ standing_goes_back old new floor t n c i f on within all h =
       last = λ j later before g e. h.last j later before g (ap (λ xs. slice_get xs j) on.fills ∙ at_front old.fills on.more_fills j g e);
       few = subst (λ xs. count_by (is_same_set f) (drop (i + 1) xs) < 4) (same_fills old new n c on within) h.few;
       readings = h.readings;
-      named = subst (λ rs. AreRows old.reads (fill_reads f) rs) same named.1;
+      named = subst (λ rs. AreRows old.reads (fill_reads f) rs) same named.named;
       current = all_mapped (IsCurrent (old.dones ++ on.more_dones) t n) (IsCurrent old.dones t n) (λ r. current_without_later old.dones on.more_dones t n r) h.readings
           (subst (λ ds. AllByRecursion (IsCurrent ds t n) h.readings) on.dones h.current);
     }

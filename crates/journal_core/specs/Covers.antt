@@ -92,3 +92,7 @@ ends_reading t r d = nat_le r.moment d.step && (reaches d t && done_covers d.wha
 pub record IsCurrent (dones : List DoneRow) (t n : ℕ) (r : ReadRow) : Type 0 where
   pub made : r.moment ≤ n
   pub kept : AllByRecursion (λ d. (d.step < n) → ends_reading t r d ≡ false) dones
+
+-- no completion of a step from n to m - 1 ends the use of a reading for thread t
+abbrev pub NoneEnds : List DoneRow → ℕ → ℕ → ℕ → ReadRow → Type 0
+NoneEnds dones t n m r = AllByRecursion (λ d. n ≤ d.step → d.step < m → ends_reading t r d ≡ false) dones

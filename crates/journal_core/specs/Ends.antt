@@ -1,8 +1,8 @@
 -- How runs end, and how a journal grows.
 use Rattle.std.specs.Prelude.{ℕ, ◌≡◌, ◌-◌, nat_le, Bool, true, false, List, length, slice_get, Option, Some, None}
-use Rattle.journal_core.specs.Rows.{Rows, Shown}
+use Rattle.journal_core.specs.Rows.{Rows, JournalView}
 use Rattle.journal_core.specs.Room.{room_of}
-use Rattle.journal_core.specs.Steps.{Own, with_own}
+use Rattle.journal_core.specs.Steps.{StepRows, with_own}
 use Rattle.journal_core.specs.Runs.{state_after}
 use Rattle.journal_core.specs.declared.rows.RowKind.{RowKind}
 use Rattle.journal_core.specs.declared.rows.StopName.{StopName}
@@ -51,6 +51,6 @@ unfoldable pub thread_of_row : List StepRow → ℕ → Option ℕ
 thread_of_row rows k = row_thread (slice_get rows k)
 
 -- rows of whole steps came at the end, and nothing else changed
-pub record Grows (old new : Shown) : Type 0 where
-  pub more : List Own
+pub record Grows (old new : JournalView) : Type 0 where
+  pub more : List StepRows
   pub rows : new ≡ record old { rows = state_after with_own old.rows more }

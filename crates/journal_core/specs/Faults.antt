@@ -9,7 +9,7 @@ use Rattle.journal_core.specs.declared.causes.Cause.{Cause}
 use Rattle.journal_core.specs.declared.causes.Cause.TheVariants.{DataStorage, DataSegment, InstStorage, InstSegment, HypDataStorage, HypInstStorage}
 use Rattle.journal_core.specs.declared.walks.FaultKind.{FaultKind}
 use Rattle.journal_core.specs.declared.walks.FaultKind.TheVariants.{Missing, Unsupported}
-use Rattle.journal_core.specs.Rights.{is_fetch}
+use Rattle.journal_core.specs.Asks.{is_fetch}
 
 -- a doubleword whose bit i is 1, and no other; the status registers of 32 bits are numbered from 32
 abbrev pub fault_bit : ℕ → ℕ

@@ -11,7 +11,7 @@ use Rattle.journal_core.specs.declared.walks.PartResult.TheVariants.{Leaf, Fault
 use Rattle.journal_core.specs.declared.walks.Node.{Node}
 use Rattle.journal_core.specs.declared.walks.PartStage.{PartStage}
 use Rattle.journal_core.specs.declared.walks.PartStage.TheVariants.{Entry, Tree, Ended}
-use Rattle.journal_core.specs.Rights.{bits, is_one}
+use Rattle.journal_core.specs.Asks.{bits, is_one}
 
 -- a table is read only where it indexes 5 to 16 bits and leaves at least 12
 unfoldable pub at_node : Node → PartStage

@@ -1,21 +1,9 @@
 -- Where an ask points (Power ISA, Book III, address translation and quadrants).
-use Rattle.std.specs.Prelude.{ℕ, ◌==◌, ◌||◌, Bool, if◌then◌else◌}
+use Rattle.std.specs.Prelude.{ℕ, ◌==◌, ◌||◌, if◌then◌else◌}
 use Rattle.journal_core.specs.declared.asks.Ask.{Ask}
 use Rattle.journal_core.specs.declared.asks.Place.{Place}
 use Rattle.journal_core.specs.declared.asks.Place.TheVariants.{Real, GuestReal, Space, Segment}
-use Rattle.journal_core.specs.Rights.{bits, is_one, is_fetch}
-
--- the thread is in hypervisor state: HV, bit 3 of the MSR
-abbrev pub is_hypervisor : Ask → Bool
-is_hypervisor ask = is_one ask.msr 3
-
--- the thread is in problem state: PR, bit 49
-abbrev pub is_problem : Ask → Bool
-is_problem ask = is_one ask.msr 49
-
--- the access's addresses are translated: IR, bit 58, for a fetch, else DR, bit 59
-abbrev pub is_relocated : Ask → Bool
-is_relocated ask = if is_fetch ask.access then is_one ask.msr 58 else is_one ask.msr 59
+use Rattle.journal_core.specs.Asks.{bits, is_hypervisor, is_problem, is_relocated}
 
 -- in the space of a process of a partition, at the address without its two highest bits
 abbrev pub in_space : Ask → ℕ → ℕ → Place

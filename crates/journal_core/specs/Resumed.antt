@@ -13,13 +13,14 @@ use Rattle.journal_core.specs.declared.walks.Stage.TheVariants.{SecondWord, Part
 use Rattle.journal_core.specs.declared.walks.TrailItem.{TrailItem}
 use Rattle.journal_core.specs.declared.walks.TrailItem.TheVariants.{Old, New}
 use Rattle.journal_core.specs.Places.{place_of}
-use Rattle.journal_core.specs.Walk.{Task, next, task_of, start_of, denial_of}
-use Rattle.journal_core.specs.Readings.{IsRead, EndsAt, IsNew, sought_at}
-use Rattle.journal_core.specs.Rows.{Rows}
+use Rattle.journal_core.specs.Rights.{first_denial}
+use Rattle.journal_core.specs.Walk.{Task, next, task_of, start_of}
+use Rattle.journal_core.specs.Following.{IsRead, EndsAt, IsNew, sought_at}
+use Rattle.journal_core.specs.Turns.{Turn}
 use Rattle.journal_core.specs.Standing.{IsDirectoryKind, fill_reads, IsDeepest, IsStandingPage}
 
 -- what a walk may begin with: the answers of what keeps walks, and the rows that they name
-pub record Known : Type 0 where
+pub record KeptAnswers : Type 0 where
   pub reads : List ReadRow
   pub fills : List FillRow
   -- the directory of a kind, for a partition, a process and an address
@@ -43,7 +44,7 @@ kept_reads fills None directory = numbers_of fills directory
 
 -- The numbers that a walk takes next in place of reading: those that it still owes, and where the walk of a partition's
 -- tree begins and none is owed, those that are kept for it.
-abbrev pub due : Known → Task → Stage → List ℕ → List ℕ
+abbrev pub due : KeptAnswers → Task → Stage → List ℕ → List ℕ
 due a k s (i ∷ is) = i ∷ is
 due a k (SecondWord at) [] = []
 due a k (PartEntry goal gra at) [] = kept_reads a.fills (a.page k.lpid gra) (a.directory PartDir k.lpid 0 gra)
@@ -53,7 +54,7 @@ due a k (ProcessTable n at) [] = []
 due a k (Over o) [] = []
 
 -- a finished walk from where it stands, which takes what is due and reads the rest anew
-abbrev pub ResumesFrom : (ℕ → Option ℕ) → ℕ → Known → Task → Stage → List ℕ → List TrailItem → NestResult → Type 0
+abbrev pub ResumesFrom : (ℕ → Option ℕ) → ℕ → KeptAnswers → Task → Stage → List ℕ → List TrailItem → NestResult → Type 0
 ResumesFrom word moment a k s owed [] out = (due a k s owed ≡ []) × EndsAt word s out
 ResumesFrom word moment a k s owed (New r ∷ items) out =
     (due a k s owed ≡ []) × IsRead k s r × IsNew word moment (sought_at k s) r × ResumesFrom word moment a k (next k s r.value) [] items out
@@ -61,27 +62,27 @@ ResumesFrom word moment a k s owed (Old i ∷ items) out =
     (rest : List ℕ) × (r : ReadRow) × (due a k s owed ≡ i ∷ rest) × (slice_get a.reads i ≡ Some r) × IsRead k s r × ResumesFrom word moment a k (next k s r.value) rest items out
 
 -- what the walk of an ask at a place begins with: the readings of the process's directory
-abbrev pub owed_at : Known → Place → List ℕ
+abbrev pub owed_at : KeptAnswers → Place → List ℕ
 owed_at a (Real at) = []
 owed_at a (GuestReal lpid at) = []
 owed_at a (Space lpid pid at) = numbers_of a.fills (a.directory ProcessDir lpid pid at)
 owed_at a Segment = []
 
 -- the walk of an ask that uses what is kept
-abbrev pub Resumed : (ℕ → Option ℕ) → ℕ → Known → Ask → List TrailItem → NestResult → Type 0
-Resumed word moment a ask items out = ResumesFrom word moment a (task_of (denial_of ask) ask) (start_of (denial_of ask) ask) (owed_at a (place_of ask)) items out
+abbrev pub Resumed : (ℕ → Option ℕ) → ℕ → KeptAnswers → Ask → List TrailItem → NestResult → Type 0
+Resumed word moment a ask items out = ResumesFrom word moment a (task_of (first_denial ask) ask) (start_of (first_denial ask) ask) (owed_at a (place_of ask)) items out
 
 -- nothing is kept
-pub record KnowsNothing (a : Known) : Type 0 where
+pub record KnowsNothing (a : KeptAnswers) : Type 0 where
   pub no_directory : (kind : KeyKind) (lpid pid sought : ℕ) → IsDirectoryKind kind → a.directory kind lpid pid sought ≡ None
   pub no_page : (lpid gra : ℕ) → a.page lpid gra ≡ None
 
 -- exactly what stands is kept: of directories of either kind the deepest, and the guest page
-pub record KnowsStanding (rows : Rows) (floor t n c : ℕ) (a : Known) : Type 0 where
-  pub reads : a.reads ≡ rows.reads
-  pub fills : a.fills ≡ rows.fills
-  pub directories : (kind : KeyKind) (lpid pid sought : ℕ) → IsDirectoryKind kind → IsDeepest rows floor t n c kind lpid pid sought (a.directory kind lpid pid sought)
-  pub pages : (lpid gra : ℕ) → IsStandingPage rows floor t n c lpid gra (a.page lpid gra)
+pub record KnowsStanding (v : Turn) (c : ℕ) (a : KeptAnswers) : Type 0 where
+  pub reads : a.reads ≡ v.rows.reads
+  pub fills : a.fills ≡ v.rows.fills
+  pub directories : (kind : KeyKind) (lpid pid sought : ℕ) → IsDirectoryKind kind → IsDeepest v c kind lpid pid sought (a.directory kind lpid pid sought)
+  pub pages : (lpid gra : ℕ) → IsStandingPage v c lpid gra (a.page lpid gra)
 
 -- the readings of a walk's items
 abbrev pub readings : List ReadRow → List TrailItem → List ReadRow

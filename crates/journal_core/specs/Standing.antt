@@ -6,7 +6,8 @@ use Rattle.journal_core.specs.declared.rows.KeyKind.TheVariants.{Translation, Gu
 use Rattle.journal_core.specs.declared.rows.Key.{Key}
 use Rattle.journal_core.specs.declared.rows.ReadRow.{ReadRow}
 use Rattle.journal_core.specs.declared.rows.FillRow.{FillRow}
-use Rattle.journal_core.specs.Rows.{Rows}
+use Rattle.journal_core.specs.Room.{walk_reads}
+use Rattle.journal_core.specs.Turns.{Turn}
 use Rattle.journal_core.specs.Covers.{IsCurrent}
 
 -- the kinds of directories
@@ -31,13 +32,19 @@ AreRows reads [] (r ∷ rs) = ⊥
 AreRows reads (i ∷ is) [] = ⊥
 AreRows reads (i ∷ is) (r ∷ rs) = (slice_get reads i ≡ Some r) × AreRows reads is rs
 
--- each fill's numbers name read rows
-abbrev pub AreNamed : List ReadRow → List FillRow → Type 0
-AreNamed reads fills = AllByRecursion (λ f. (rs : List ReadRow) × AreRows reads (fill_reads f) rs) fills
+-- a fill's numbers name read rows, none of them later than the fill
+pub record IsNamed (reads : List ReadRow) (f : FillRow) : Type 0 where
+  pub readings : List ReadRow
+  pub named : AreRows reads (fill_reads f) readings
+  pub made : AllByRecursion (λ (r : ReadRow). r.moment ≤ f.moment) readings
 
--- each fill has at most 36 readings
+-- each fill's numbers do so
+abbrev pub AreNamed : List ReadRow → List FillRow → Type 0
+AreNamed reads fills = AllByRecursion (IsNamed reads) fills
+
+-- each fill has at most as many readings as a walk
 abbrev pub AreShort : List FillRow → Type 0
-AreShort fills = AllByRecursion (λ (f : FillRow). f.count ≤ 36) fills
+AreShort fills = AllByRecursion (λ (f : FillRow). f.count ≤ walk_reads) fills
 
 abbrev pub kind_number : KeyKind → ℕ
 kind_number Translation = 0
@@ -49,33 +56,33 @@ kind_number PartDir = 3
 abbrev pub is_same_set : FillRow → FillRow → Bool
 is_same_set f g = (f.thread == g.thread) && ((kind_number f.key.kind == kind_number g.key.kind) && (f.key.page % 16 == g.key.page % 16))
 
--- Fill i, which is f, stands for thread t at n before fill number c: it is the thread's, not below the floor and below c;
--- no later one has its key; fewer than four later ones fell into its set; and its readings are current.
-pub record IsStanding (rows : Rows) (floor t n c i : ℕ) (f : FillRow) : Type 0 where
-  pub is : slice_get rows.fills i ≡ Some f
-  pub of_thread : f.thread ≡ t
-  pub from_floor : floor ≤ i
+-- Fill i, which is f, stands in a turn before fill number c: it is the thread's, not below the floor and below c; no later one has
+-- its key; fewer than four later ones fell into its set; and its readings are current.
+pub record IsStanding (v : Turn) (c i : ℕ) (f : FillRow) : Type 0 where
+  pub is : slice_get v.rows.fills i ≡ Some f
+  pub of_thread : f.thread ≡ v.thread
+  pub from_floor : v.floor ≤ i
   pub below : i < c
-  pub last : (j : ℕ) → i < j → j < c → (g : FillRow) → slice_get rows.fills j ≡ Some g → g.thread ≡ t → g.key ≡ f.key → ⊥
-  pub few : count_by (is_same_set f) (drop (i + 1) (take c rows.fills)) < 4
+  pub last : (j : ℕ) → i < j → j < c → (g : FillRow) → slice_get v.rows.fills j ≡ Some g → g.thread ≡ v.thread → g.key ≡ f.key → ⊥
+  pub few : count_by (is_same_set f) (drop (i + 1) (take c v.rows.fills)) < 4
   pub readings : List ReadRow
-  pub named : AreRows rows.reads (fill_reads f) readings
-  pub current : AllByRecursion (IsCurrent rows.dones t n) readings
+  pub named : AreRows v.rows.reads (fill_reads f) readings
+  pub current : AllByRecursion (IsCurrent v.rows.dones v.thread v.step) readings
 
 -- fill i stands and has this key
-pub record IsStandingFill (rows : Rows) (floor t n c : ℕ) (key : Key) (i : ℕ) : Type 0 where
+pub record IsStandingFill (v : Turn) (c : ℕ) (key : Key) (i : ℕ) : Type 0 where
   pub fill : FillRow
-  pub standing : IsStanding rows floor t n c i fill
+  pub standing : IsStanding v c i fill
   pub of_key : fill.key ≡ key
 
 -- the standing fill of a key, or none
-abbrev pub IsStandingKey : Rows → ℕ → ℕ → ℕ → ℕ → Key → Option ℕ → Type 0
-IsStandingKey rows floor t n c key (Some i) = IsStandingFill rows floor t n c key i
-IsStandingKey rows floor t n c key None = (j : ℕ) (g : FillRow) → IsStanding rows floor t n c j g → g.key ≡ key → ⊥
+abbrev pub IsStandingKey : Turn → ℕ → Key → Option ℕ → Type 0
+IsStandingKey v c key (Some i) = IsStandingFill v c key i
+IsStandingKey v c key None = (j : ℕ) (g : FillRow) → IsStanding v c j g → g.key ≡ key → ⊥
 
 -- the standing guest page of a guest real address, or none
-abbrev pub IsStandingPage : Rows → ℕ → ℕ → ℕ → ℕ → ℕ → ℕ → Option ℕ → Type 0
-IsStandingPage rows floor t n c lpid gra answer = IsStandingKey rows floor t n c (key_of GuestPage lpid 0 12 gra) answer
+abbrev pub IsStandingPage : Turn → ℕ → ℕ → ℕ → Option ℕ → Type 0
+IsStandingPage v c lpid gra answer = IsStandingKey v c (key_of GuestPage lpid 0 12 gra) answer
 
 -- a fill is of this kind, partition and process, and of the page in which an address lies
 pub record IsFor (kind : KeyKind) (lpid pid sought : ℕ) (f : FillRow) : Type 0 where
@@ -85,13 +92,13 @@ pub record IsFor (kind : KeyKind) (lpid pid sought : ℕ) (f : FillRow) : Type 0
   pub of_page : f.key.page ≡ sought / 2 ^ f.key.left
 
 -- fill i stands for an address, and none that does leaves fewer bits
-pub record IsDeepestFill (rows : Rows) (floor t n c : ℕ) (kind : KeyKind) (lpid pid sought i : ℕ) : Type 0 where
+pub record IsDeepestFill (v : Turn) (c : ℕ) (kind : KeyKind) (lpid pid sought i : ℕ) : Type 0 where
   pub fill : FillRow
-  pub standing : IsStanding rows floor t n c i fill
+  pub standing : IsStanding v c i fill
   pub for_it : IsFor kind lpid pid sought fill
-  pub least : (j : ℕ) (g : FillRow) → IsStanding rows floor t n c j g → IsFor kind lpid pid sought g → fill.key.left ≤ g.key.left
+  pub least : (j : ℕ) (g : FillRow) → IsStanding v c j g → IsFor kind lpid pid sought g → fill.key.left ≤ g.key.left
 
 -- of the standing directories for an address the one that leaves the fewest bits, or none
-abbrev pub IsDeepest : Rows → ℕ → ℕ → ℕ → ℕ → KeyKind → ℕ → ℕ → ℕ → Option ℕ → Type 0
-IsDeepest rows floor t n c kind lpid pid sought (Some i) = IsDeepestFill rows floor t n c kind lpid pid sought i
-IsDeepest rows floor t n c kind lpid pid sought None = (j : ℕ) (g : FillRow) → IsStanding rows floor t n c j g → IsFor kind lpid pid sought g → ⊥
+abbrev pub IsDeepest : Turn → ℕ → KeyKind → ℕ → ℕ → ℕ → Option ℕ → Type 0
+IsDeepest v c kind lpid pid sought (Some i) = IsDeepestFill v c kind lpid pid sought i
+IsDeepest v c kind lpid pid sought None = (j : ℕ) (g : FillRow) → IsStanding v c j g → IsFor kind lpid pid sought g → ⊥

@@ -22,9 +22,9 @@ use Rattle.journal_core.specs.declared.walks.Goal.TheVariants.{ForEntry, ForTabl
 use Rattle.journal_core.specs.declared.walks.NestResult.TheVariants.{Page, Fault, Stop}
 use Rattle.journal_core.specs.declared.walks.Stage.{Stage}
 use Rattle.journal_core.specs.declared.walks.Stage.TheVariants.{SecondWord, PartEntry, PartTable, ProcessEntry, ProcessTable, Over}
-use Rattle.journal_core.specs.Rights.{bits, first_denial}
+use Rattle.journal_core.specs.Asks.{bits}
 use Rattle.journal_core.specs.Faults.{fault_bit, kind_bits, denial_bits, process_fault, partition_fault, segment_fault}
-use Rattle.journal_core.specs.Places.{is_problem, place_of}
+use Rattle.journal_core.specs.Places.{place_of}
 use Rattle.journal_core.specs.PartitionWalk.{at_node, has_entry, entry_place, part_start, root_bits, node_of, after_entry, after_tree, real_in, entry_at}
 
 -- what is walked: for an ask, an address of a process of a partition, or with process 0 a guest real address; and which
@@ -139,10 +139,6 @@ start_at k (Real a) = Over (Page a)
 start_at k (GuestReal lpid a) = enter k ForGuest a
 start_at k (Space lpid pid a) = process_start k
 start_at k Segment = Over (Fault (segment_fault k.ask))
-
--- the rights of an ask: those of the architecture, with authority masks of 0, the only values that they can have yet
-abbrev pub denial_of : Ask → Rights → AccessKind → Option Denial
-denial_of ask = first_denial (is_problem ask)
 
 -- no right refuses anything; for the question whether readings lead to a page at all
 abbrev pub never_denied : Rights → AccessKind → Option Denial

@@ -110,3 +110,9 @@ pub enum TrailItem {
     /// A new reading.
     New(ReadRow),
 }
+
+impl Default for TrailItem {
+    fn default() -> TrailItem {
+        TrailItem::Old(0)
+    }
+}

@@ -1,6 +1,5 @@
-use Rattle.std.proofs.Common.{◌≡◌, ◌++◌, ◌∷◌, [], arith}
+use Rattle.std.proofs.Common.{◌≡◌, ◌++◌, ◌∷◌, [], arith, length}
 use Rattle.std.proofs.lemmas.Grind.{common_steps}
-use Rattle.std.specs.Prelude.{vec_len}
 use Rattle.journal_core.specs.declared.rows.DeviceRow.{DeviceRow}
 use Rattle.journal_core.proofs.DatesLemmas.{in_order_push}
 use Rattle.journal_core.proofs.journal.Journal.push_device.Goals as goal
@@ -8,7 +7,7 @@ use Rattle.journal_core.proofs.journal.Journal.push_device.Goals as goal
 pub invariant_of-self : goal.invariant_of-self
 invariant_of-self c =
     let kept = c.self.invariant in
-    let here : c.args.row.step ≡ vec_len c.self.inside.steps = grind (arith, common_steps, c.requires.step) in
+    let here : c.args.row.step ≡ length c.self.inside.steps.items = grind (arith, common_steps, c.requires.step) in
     let items : c.push.new.self.items ≡ c.self.inside.devices.items ++ c.args.row ∷ [] = grind (arith, common_steps) in
     record {
       most = kept.most;
@@ -29,7 +28,7 @@ invariant_of-self c =
         fills = kept.dated.fills;
         writes = kept.dated.writes;
         dones = kept.dated.dones;
-        devices = rw items (in_order_push (λ (r : DeviceRow). r.step) 0 (vec_len c.self.inside.steps) c.self.inside.devices.items c.args.row here (omega arith) kept.dated.devices);
+        devices = rw items (in_order_push (λ (r : DeviceRow). r.step) 0 (length c.self.inside.steps.items) c.self.inside.devices.items c.args.row here (omega arith) kept.dated.devices);
       };
       short = kept.short;
       named = kept.named;

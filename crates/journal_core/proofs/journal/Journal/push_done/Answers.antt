@@ -1,6 +1,5 @@
-use Rattle.std.proofs.Common.{◌≡◌, ◌++◌, ◌∷◌, [], arith}
+use Rattle.std.proofs.Common.{◌≡◌, ◌++◌, ◌∷◌, [], arith, length}
 use Rattle.std.proofs.lemmas.Grind.{common_steps}
-use Rattle.std.specs.Prelude.{vec_len}
 use Rattle.journal_core.specs.declared.rows.DoneRow.{DoneRow}
 use Rattle.journal_core.proofs.DatesLemmas.{in_order_push}
 use Rattle.journal_core.proofs.journal.Journal.push_done.Goals as goal
@@ -8,7 +7,7 @@ use Rattle.journal_core.proofs.journal.Journal.push_done.Goals as goal
 pub invariant_of-self : goal.invariant_of-self
 invariant_of-self c =
     let kept = c.self.invariant in
-    let here : c.args.row.step ≡ vec_len c.self.inside.steps = grind (arith, common_steps, c.requires.step) in
+    let here : c.args.row.step ≡ length c.self.inside.steps.items = grind (arith, common_steps, c.requires.step) in
     let items : c.push.new.self.items ≡ c.self.inside.dones.items ++ c.args.row ∷ [] = grind (arith, common_steps) in
     record {
       most = kept.most;
@@ -28,7 +27,7 @@ invariant_of-self c =
         reads = kept.dated.reads;
         fills = kept.dated.fills;
         writes = kept.dated.writes;
-        dones = rw items (in_order_push (λ (r : DoneRow). r.step) 0 (vec_len c.self.inside.steps) c.self.inside.dones.items c.args.row here (omega arith) kept.dated.dones);
+        dones = rw items (in_order_push (λ (r : DoneRow). r.step) 0 (length c.self.inside.steps.items) c.self.inside.dones.items c.args.row here (omega arith) kept.dated.dones);
         devices = kept.dated.devices;
       };
       short = kept.short;

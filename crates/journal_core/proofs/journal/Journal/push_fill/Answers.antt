@@ -1,6 +1,6 @@
 use Rattle.std.proofs.Common.{◌≡◌, ℕ, ◌<◌, ◌++◌, ◌∷◌, [], length, arith, subst}
 use Rattle.std.proofs.lemmas.Grind.{common_steps}
-use Rattle.std.specs.Prelude.{vec_len, slice_index}
+use Rattle.std.specs.Prelude.{slice_index}
 use Rattle.journal_core.specs.declared.rows.FillRow.{FillRow}
 use Rattle.journal_core.proofs.DatesLemmas.{in_order_push}
 use Rattle.journal_core.proofs.NamedLemmas.{short_with, named_with}
@@ -9,7 +9,7 @@ use Rattle.journal_core.proofs.journal.Journal.push_fill.Goals as goal
 pub invariant_of-self : goal.invariant_of-self
 invariant_of-self c =
     let kept = c.self.invariant in
-    let here : c.args.row.moment ≡ vec_len c.self.inside.steps = grind (arith, common_steps, c.requires.moment) in
+    let here : c.args.row.moment ≡ length c.self.inside.steps.items = grind (arith, common_steps, c.requires.moment) in
     let items : c.push.new.self.items ≡ c.self.inside.fills.items ++ c.args.row ∷ [] = grind (arith, common_steps) in
     let reads : c.args.self.now.rows.reads ≡ c.self.inside.reads.items = grind (arith, common_steps) in
     record {
@@ -28,11 +28,11 @@ invariant_of-self c =
       devices_within = kept.devices_within;
       dated = record {
         reads = kept.dated.reads;
-        fills = rw items (in_order_push (λ (r : FillRow). r.moment) 0 (vec_len c.self.inside.steps) c.self.inside.fills.items c.args.row here (omega arith) kept.dated.fills);
+        fills = rw items (in_order_push (λ (r : FillRow). r.moment) 0 (length c.self.inside.steps.items) c.self.inside.fills.items c.args.row here (omega arith) kept.dated.fills);
         writes = kept.dated.writes;
         dones = kept.dated.dones;
         devices = kept.dated.devices;
       };
       short = rw items (short_with c.self.inside.fills.items c.args.row kept.short c.requires.count);
-      named = rw items (named_with c.self.inside.reads.items c.self.inside.fills.items c.args.row kept.named (subst (λ xs. (k : ℕ) → k < c.args.row.count → slice_index c.args.row.reads k < length xs) reads c.requires.reads));
+      named = rw items (named_with c.self.inside.reads.items c.self.inside.fills.items c.args.row (length c.self.inside.steps.items) here kept.dated.reads kept.named (subst (λ xs. (k : ℕ) → k < c.args.row.count → slice_index c.args.row.reads k < length xs) reads c.requires.reads));
     }

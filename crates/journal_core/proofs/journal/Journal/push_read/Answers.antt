@@ -1,6 +1,5 @@
-use Rattle.std.proofs.Common.{◌≡◌, ◌++◌, ◌∷◌, [], arith}
+use Rattle.std.proofs.Common.{◌≡◌, ◌++◌, ◌∷◌, [], arith, length}
 use Rattle.std.proofs.lemmas.Grind.{common_steps}
-use Rattle.std.specs.Prelude.{vec_len}
 use Rattle.journal_core.specs.declared.rows.ReadRow.{ReadRow}
 use Rattle.journal_core.proofs.DatesLemmas.{in_order_push}
 use Rattle.journal_core.proofs.NamedLemmas.{named_by_more}
@@ -9,7 +8,7 @@ use Rattle.journal_core.proofs.journal.Journal.push_read.Goals as goal
 pub invariant_of-self : goal.invariant_of-self
 invariant_of-self c =
     let kept = c.self.invariant in
-    let here : c.args.row.moment ≡ vec_len c.self.inside.steps = grind (arith, common_steps, c.requires.moment) in
+    let here : c.args.row.moment ≡ length c.self.inside.steps.items = grind (arith, common_steps, c.requires.moment) in
     let items : c.push.new.self.items ≡ c.self.inside.reads.items ++ c.args.row ∷ [] = grind (arith, common_steps) in
     record {
       most = kept.most;
@@ -26,7 +25,7 @@ invariant_of-self c =
       devices = kept.devices;
       devices_within = kept.devices_within;
       dated = record {
-        reads = rw items (in_order_push (λ (r : ReadRow). r.moment) 0 (vec_len c.self.inside.steps) c.self.inside.reads.items c.args.row here (omega arith) kept.dated.reads);
+        reads = rw items (in_order_push (λ (r : ReadRow). r.moment) 0 (length c.self.inside.steps.items) c.self.inside.reads.items c.args.row here (omega arith) kept.dated.reads);
         fills = kept.dated.fills;
         writes = kept.dated.writes;
         dones = kept.dated.dones;

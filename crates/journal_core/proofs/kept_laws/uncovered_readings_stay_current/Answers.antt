@@ -1,5 +1,0 @@
-use Rattle.journal_core.proofs.CurrentLemmas.{stays_current}
-use Rattle.journal_core.proofs.kept_laws.uncovered_readings_stay_current.Goals as goal
-
-pub returns : goal.returns
-returns c = stays_current

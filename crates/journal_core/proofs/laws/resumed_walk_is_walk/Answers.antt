@@ -1,8 +1,0 @@
-use Rattle.journal_core.specs.Places.{place_of}
-use Rattle.journal_core.specs.Walk.{task_of, start_of, denial_of}
-use Rattle.journal_core.specs.Resumed.{owed_at}
-use Rattle.journal_core.proofs.ResumedLemmas.{resumed_walks}
-use Rattle.journal_core.proofs.laws.resumed_walk_is_walk.Goals as goal
-
-pub returns : goal.returns
-returns c = λ word moment known ask items out h. resumed_walks word moment known (task_of (denial_of ask) ask) (start_of (denial_of ask) ask) (owed_at known (place_of ask)) items out h
