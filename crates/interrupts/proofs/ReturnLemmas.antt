@@ -7,12 +7,12 @@ use Rattle.ppc_bits.specs.Bits.{bit, word_of, is_within}
 use Rattle.ppc_bits.proofs.Words.{weights_bit}
 use Rattle.ppc_spr.specs.declared.msr.Msr.{Msr}
 use Rattle.ppc_spr.specs.declared.msr.Hyper.{Hyper}
-use Rattle.ppc_spr.specs.MsrBits as at
-use Rattle.ppc_spr.specs.MsrBits.{is_among, is_set, either}
+use Rattle.ppc_bits.specs.MachineStateBits as at
+use Rattle.ppc_bits.specs.Bits.{is_among, is_set, either}
 use Rattle.ppc_spr.specs.Profile.{may_be, is_in_profile, msr_of, outside_of, profiled}
 use Rattle.ppc_spr.specs.Msrs.{put_bit, saved_bit, rfid_bit, hrfid_bit, interrupt_bit, raises, keeps_ri, after_interrupt, after_rfid, after_hrfid}
 use Rattle.ppc_spr.proofs.Bitwise.{same_below, word_is}
-use Rattle.ppc_spr.proofs.Profile.{each_holds}
+use Rattle.ppc_spr.proofs.FixedBits.{each_holds}
 use Rattle.ppc_spr.specs.declared.msr.Hyper.TheVariants.{Keep, RaiseKeepRi}
 use Rattle.journal_core.specs.declared.causes.Cause.{Cause}
 use Rattle.journal_core.specs.declared.causes.Cause.TheVariants.{DataStorage, DataSegment, InstStorage, InstSegment, Alignment, Program, Decrementer, HypDecrementer, SystemCall, HypDataStorage, HypInstStorage, HypAssist, HypDoorbell}
@@ -203,15 +203,15 @@ rfid_hv m b h is =
     ∙ ap (λ y. min (cond (raises h) 1 (bit 64 m at.hv)) y) (saved_hv m b is)
     ∙ lower_same (raises h) (bit 64 m at.hv) (one_bit m 3)
 
-rfid_me : (m b : ℕ) (h : Hyper) → IsSaved m b → cond (is_set (interrupted m h) at.hv) (bit 64 (saved m b) at.me) (bit 64 (interrupted m h) at.me) ≡ bit 64 m at.me
+rfid_me : (m b : ℕ) (h : Hyper) → IsSaved m b → cond (is_set 64 (interrupted m h) at.hv) (bit 64 (saved m b) at.me) (bit 64 (interrupted m h) at.me) ≡ bit 64 m at.me
 rfid_me m b h is =
-    ap (λ x. cond (is_set (interrupted m h) at.hv) x (bit 64 (interrupted m h) at.me)) (saved_me m b is)
-    ∙ ap (λ y. cond (is_set (interrupted m h) at.hv) (bit 64 m at.me) y) (new_me m h)
-    ∙ same_both (is_set (interrupted m h) at.hv) (bit 64 m at.me)
+    ap (λ x. cond (is_set 64 (interrupted m h) at.hv) x (bit 64 (interrupted m h) at.me)) (saved_me m b is)
+    ∙ ap (λ y. cond (is_set 64 (interrupted m h) at.hv) (bit 64 m at.me) y) (new_me m h)
+    ∙ same_both (is_set 64 (interrupted m h) at.hv) (bit 64 m at.me)
 
 rfid_same : (m b : ℕ) (h : Hyper) → IsSaved m b → (i : ℕ) → i < 64 → rfid_bit (interrupted m h) (saved m b) i ≡ bit 64 m i
 rfid_same m b h is i l =
-    ap (λ x. rfid_with (λ k. hrfid_bit (saved m b) k) x (cond (is_set (interrupted m h) at.hv) (bit 64 (saved m b) at.me) (bit 64 (interrupted m h) at.me)) i) (rfid_hv m b h is)
+    ap (λ x. rfid_with (λ k. hrfid_bit (saved m b) k) x (cond (is_set 64 (interrupted m h) at.hv) (bit 64 (saved m b) at.me) (bit 64 (interrupted m h) at.me)) i) (rfid_hv m b h is)
     ∙ ap (λ y. rfid_with (λ k. hrfid_bit (saved m b) k) (bit 64 m at.hv) y i) (rfid_me m b h is)
     ∙ ap (λ z. cond (eqb i at.hv) (bit 64 m at.hv) (cond (eqb i at.me) (bit 64 m at.me) z)) (hrfid_same m b is i l)
     ∙ rfid_same_with m i l

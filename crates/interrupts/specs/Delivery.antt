@@ -1,8 +1,8 @@
 -- What an interrupt leaves in the registers of the thread that takes it (Power ISA, Book III, 6.4 and 6.5).
-use Rattle.std.specs.Prelude.{ℕ, ◌+◌, ◌%◌, ◌^◌}
-use Rattle.ppc_bits.specs.Bits.{bit, word_of}
+use Rattle.std.specs.Prelude.{ℕ}
+use Rattle.ppc_bits.specs.Addresses.{next_address}
+use Rattle.ppc_bits.specs.Bits.{bit, word_of, either}
 use Rattle.ppc_spr.specs.declared.msr.Msr.{Msr}
-use Rattle.ppc_spr.specs.MsrBits.{either}
 use Rattle.ppc_spr.specs.Msrs.{after_interrupt}
 use Rattle.journal_core.specs.declared.causes.Cause.{Cause}
 use Rattle.journal_core.specs.declared.causes.Cause.TheVariants.{DataStorage, DataSegment, Alignment, SystemCall, HypDataStorage, HypInstStorage, HypAssist}
@@ -14,7 +14,7 @@ use Rattle.interrupts.specs.Table.{interrupt_of}
 
 -- the address of the instruction that caused the interrupt, or before which it came; of a system call, that of the next one
 unfoldable pub saved_address : Cause → ℕ → ℕ
-saved_address (SystemCall lev) nia = (nia + 4) % 2 ^ 64
+saved_address (SystemCall lev) nia = next_address nia
 saved_address other nia = nia
 
 -- the machine state in which the interrupt came, with these bits set

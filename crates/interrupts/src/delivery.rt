@@ -5,6 +5,7 @@ ghost use Rattle.interrupts.specs.Delivery as deliveries;
 
 use crate::table::{Interrupt, SavedIn, interrupt_of};
 use journal_core::Cause;
+use ppc_bits::next_address;
 use ppc_spr::Msr;
 use thread_regs::Thread;
 
@@ -14,7 +15,7 @@ fn saved_address(cause: &Cause, nia: u64) -> u64
     ensures { result ≡ deliveries.saved_address cause.now nia }
 {
     match *cause {
-        Cause::SystemCall { .. } => nia.wrapping_add(4),
+        Cause::SystemCall { .. } => next_address(nia),
         Cause::DataStorage { .. }
         | Cause::DataSegment { .. }
         | Cause::InstStorage { .. }

@@ -7,7 +7,7 @@ use journal_core::Cause;
 use thread_regs::Thread;
 
 /// The cause that is taken before the thread's next instruction, if there is one (Power ISA, Book III, 6.7). The
-/// decrementers' causes are to come, so there is none yet.
+/// decrementers raise none in this machine, so there is none.
 pub fn pending(thread: &Thread) -> Option<Cause>
     ensures { result ≡ pending_cause thread.now }
 {

@@ -1,5 +1,5 @@
 pub mod OpenLemmas
 pub mod StepLemmas
-pub mod HeldLemmas
+pub mod ViewLemmas
 pub mod RunLemmas
 pub mod QuietLemmas

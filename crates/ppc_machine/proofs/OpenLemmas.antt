@@ -4,7 +4,7 @@ use Rattle.std.specs.Prelude.{IsErr, OnOk}
 use Rattle.std.proofs.lemmas.List.{take_more, take_all}
 use Rattle.journal_core.specs.Bytes.{placed}
 use Rattle.journal_core.specs.Past.{ram_after, ram_before}
-use Rattle.journal_core.specs.Rows.{Shown, no_rows}
+use Rattle.journal_core.specs.Rows.{JournalView, no_rows}
 use Rattle.journal_core.proofs.RunsLemmas.{IsRun-none}
 use Rattle.thread_regs.specs.declared.registers.Thread.{Thread}
 use Rattle.thread_regs.specs.Registers.{all_reset}
@@ -13,7 +13,7 @@ use Rattle.elf_image.specs.declared.image.Image.{Image}
 use Rattle.thread_regs.proofs.ResetLemmas.{length-reset_from}
 use Rattle.ppc_machine.specs.Start.{start, loaded}
 use Rattle.ppc_step.specs.Rule.{KeepsRule, next_state}
-use Rattle.ppc_machine.specs.Held.{Held, start_of, now_of, IsKept}
+use Rattle.ppc_machine.specs.MachineView.{MachineView, start_of, now_of, IsKept}
 use Rattle.ppc_machine.specs.Machines.{opened}
 
 loaded-push : (ram : List ℕ) (ss : List Segment) (s : Segment) → loaded ram (ss ++ s ∷ []) ≡ placed (loaded ram ss) s.at s.bytes
@@ -38,11 +38,11 @@ pub all_loaded : (ram now : List ℕ) (all : List Segment) (k : ℕ) → length 
 all_loaded ram now all k le is = is ∙ ap (λ (ss : List Segment). loaded ram ss) (take_all k all le)
 
 -- an empty journal is lawful where the threads are reset
-pub IsKept-opened : (entry count steps : ℕ) (threads : List Thread) (store : List ℕ) (journal : Shown) → journal ≡ record { reserved = steps; floor = 0; rows = no_rows } → threads ≡ all_reset count entry → length threads ≡ count → steps ≤ 1048576 →
+pub IsKept-opened : (entry count steps : ℕ) (threads : List Thread) (store : List ℕ) (journal : JournalView) → journal ≡ record { reserved = steps; floor = 0; rows = no_rows } → threads ≡ all_reset count entry → length threads ≡ count → steps ≤ 1048576 →
     IsKept (record { entry = entry; threads = threads; store = store; journal = journal })
 unfolding start_of ram_after ram_before
 IsKept-opened entry count steps threads store journal empty reset counted few =
-    let m : Held = record { entry = entry; threads = threads; store = store; journal = journal } in
+    let m : MachineView = record { entry = entry; threads = threads; store = store; journal = journal } in
     let same_ram : (start_of m).ram ≡ store = rw empty refl in
     let begin : start_of m ≡ now_of m = rw (empty, counted, ← reset) refl in
     record {

@@ -3,8 +3,8 @@ use Rattle.std.proofs.Common.{◌≡◌, ℕ, ◌+◌, ◌<◌, ◌≤◌, nat_l
 use Rattle.std.proofs.lemmas.Bool.Decides.{nat_tests}
 use Rattle.journal_core.specs.Rows.{Rows, no_rows}
 use Rattle.journal_core.specs.Room.{HasRoom, read_places, fill_places, write_places, done_places, device_places}
-use Rattle.journal_core.specs.Steps.{Own, with_own, steps_of}
-use Rattle.journal_core.specs.Runs.{Made, EachKeeps, state_after}
+use Rattle.journal_core.specs.Steps.{StepRows, with_own, steps_of}
+use Rattle.journal_core.specs.Runs.{PastStep, EachKeeps, state_after}
 use Rattle.ppc_step.specs.States.{State}
 use Rattle.ppc_step.specs.Rule.{KeepsRule, next_state}
 use Rattle.ppc_step.specs.Rule.{IsLawfulRun}
@@ -17,7 +17,7 @@ pub record IsQuiet (j : Rows) : Type 0 where
   pub dones : j.dones ≡ []
   pub devices : j.devices ≡ []
 
-IsQuiet-step : (begin : State) (before : Rows) (past : List (Made State)) (s : State) (own : Own) → IsQuiet before → KeepsRule begin before past s own → IsQuiet (with_own before own)
+IsQuiet-step : (begin : State) (before : Rows) (past : List (PastStep State)) (s : State) (own : StepRows) → IsQuiet before → KeepsRule begin before past s own → IsQuiet (with_own before own)
 unfolding with_own
 IsQuiet-step begin before past s own quiet keeps = record {
   reads = rw (quiet.reads, keeps.read) refl;
@@ -27,7 +27,7 @@ IsQuiet-step begin before past s own quiet keeps = record {
   devices = rw (quiet.devices, keeps.device) refl;
 }
 
-IsQuiet-steps : (begin : State) (before : Rows) (past : List (Made State)) (s : State) (steps : List Own) → IsQuiet before → EachKeeps (KeepsRule begin) next_state before past s steps → IsQuiet (state_after with_own before steps)
+IsQuiet-steps : (begin : State) (before : Rows) (past : List (PastStep State)) (s : State) (steps : List StepRows) → IsQuiet before → EachKeeps (KeepsRule begin) next_state before past s steps → IsQuiet (state_after with_own before steps)
 unfolding EachKeeps state_after
 IsQuiet-steps begin before past s [] quiet each = quiet
 IsQuiet-steps begin before past s (own ∷ more) quiet each =

@@ -1,15 +1,16 @@
 -- One step of the code against the rule.
 use Rattle.std.proofs.Common.{◌≡◌, ℕ, List, [], Option, Some, None, refl}
 use Rattle.journal_core.specs.declared.rows.StepEnd.{StepEnd}
-use Rattle.journal_core.specs.declared.rows.StepEnd.TheVariants.{Ran, Took, Stopped}
+use Rattle.journal_core.specs.declared.rows.StepEnd.TheVariants.{Ran}
 use Rattle.journal_core.specs.Past.{ram_after}
-use Rattle.journal_core.specs.Steps.{Own}
+use Rattle.journal_core.specs.Steps.{StepRows}
 use Rattle.thread_regs.specs.declared.registers.Thread.{Thread}
 use Rattle.thread_regs.specs.Registers.{thread_at}
 use Rattle.ppc_step.specs.declared.beginning.Beginning.{Beginning}
 use Rattle.ppc_step.specs.declared.beginning.Beginning.TheVariants.{Interrupted, Untranslated, Fetches}
 use Rattle.ppc_step.specs.Steps.{threads_after}
-use Rattle.ppc_step.specs.Rule.{EndFetched, EndIs, behind, after_end}
+use Rattle.ppc_step.specs.Rule.{EndFetched, EndIs, behind, next_state}
+use Rattle.ppc_step.specs.States.{state_of}
 
 fetched_word : (t : Thread) (at : ℕ) (end : StepEnd) (word : Option ℕ) → EndFetched t at end word → end ≡ Ran → (w : ℕ) × (word ≡ Some w)
 fetched_word t at end (Some w) cause ran = (w, refl)
@@ -22,9 +23,7 @@ has_word t end word Untranslated is ran = absurd cc
 has_word t end word (Fetches at) is ran = fetched_word t at end word is ran
 
 -- the components after a step are its state by the rule
-pub finished : (threads : List Thread) (ram : List ℕ) (own : Own) (end : StepEnd) → own.writes ≡ [] →
-    after_end (record { threads = threads; ram = ram }) own end ≡ record { threads = threads_after own.row.thread (behind own.row.word (thread_at threads own.row.thread)) threads end; ram = ram }
-unfolding ram_after
-finished threads ram own Ran none = rw none refl
-finished threads ram own (Took cause) none = refl
-finished threads ram own (Stopped name value) none = refl
+pub finished : (threads : List Thread) (ram : List ℕ) (own : StepRows) → own.writes ≡ [] →
+    next_state (state_of threads ram) own ≡ state_of (threads_after own.row.thread (behind own.row.word (thread_at threads own.row.thread)) threads own.row.end) ram
+unfolding next_state ram_after
+finished threads ram own none = rw none refl

@@ -9,6 +9,6 @@ pub use Rattle.ppc_step.specs.States
 pub use Rattle.ppc_step.specs.Rule
 pub mod Start
 pub mod Endings
-pub mod Held
+pub mod MachineView
 pub mod Inside
 pub mod Machines

@@ -4,7 +4,7 @@ use Rattle.journal_core.specs.Bytes.{placed}
 use Rattle.thread_regs.specs.Registers.{all_reset}
 use Rattle.elf_image.specs.declared.segment.Segment.{Segment}
 use Rattle.elf_image.specs.declared.image.Image.{Image}
-use Rattle.ppc_step.specs.States.{State}
+use Rattle.ppc_step.specs.States.{State, state_of}
 
 -- storage with the bytes of some segments placed in it, in order
 abbrev pub loaded : List ℕ → List Segment → List ℕ
@@ -17,4 +17,4 @@ start_ram image ram_mib = loaded (replicate (ram_mib * 1048576) 0) image.segment
 
 -- the state in which a machine starts: the image's segments in zeros, and all threads reset at its entry
 abbrev pub start : Image → ℕ → ℕ → State
-start image ram_mib threads = record { threads = all_reset threads image.entry; ram = start_ram image ram_mib }
+start image ram_mib threads = state_of (all_reset threads image.entry) (start_ram image ram_mib)

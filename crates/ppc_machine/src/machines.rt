@@ -21,9 +21,9 @@ pub struct Machine {
 }
 
 impl Model for Machine {
-    ghost use Rattle.ppc_machine.specs.Held.{Held, IsKept};
+    ghost use Rattle.ppc_machine.specs.MachineView.{MachineView, IsKept};
 
-    ghost Value = { Held };
+    ghost Value = { MachineView };
 
     ghost use Rattle.ppc_machine.specs.Inside.{held_of};
 
@@ -76,7 +76,8 @@ impl Machine {
     ghost use Rattle.journal_core.specs.Room.{HasRoom};
     ghost use Rattle.journal_core.specs.Ends.{IsRunning};
     ghost use Rattle.thread_regs.specs.Registers.{thread_at};
-    ghost use Rattle.ppc_machine.specs.Held.{start_of, IsLawful};
+    ghost use Rattle.ppc_step.specs.Soundness.{IsSound};
+    ghost use Rattle.ppc_machine.specs.MachineView.{now_of, start_of, IsLawful};
     ghost use Rattle.ppc_machine.specs.Machines.{IsOneWithin, opened, StepsOn, IsStopped, RunsTo};
 
     /// A machine with an image in its RAM, which is all zero elsewhere, its threads in their reset state
@@ -119,11 +120,14 @@ impl Machine {
         &self.components.journal
     }
 
-    /// The registers of all threads.
+    /// The registers of all threads, of which each is sound, with one time base.
     pub fn threads(&self) -> &Threads
-        ensures { result.now ≡ self.now.threads }
+        ensures threads { result.now ≡ self.now.threads }
+        ensures sound { IsSound (now_of self.now) }
     {
-        &self.components.parts.threads
+        let threads = &self.components.parts.threads;
+        let _ = threads.count();
+        threads
     }
 
     /// The registers of thread `i`, which is below the count.

@@ -7,7 +7,7 @@ ghost use Rattle.ppc_step.specs.States.{word_at};
 ghost use Rattle.ppc_step.specs.Steps.{threads_after};
 ghost use Rattle.ppc_step.specs.Rule.{behind, StepsTo};
 ghost use Rattle.ppc_machine.specs.Endings.{EndsAs, EndsAt, wordless};
-ghost use Rattle.ppc_machine.specs.Held.{state_of};
+ghost use Rattle.ppc_machine.specs.MachineView.{state_in};
 
 use journal_core::{Journal, StepEnd, StepRow, StopName, Use};
 use ppc_step::{Beginning, Parts, begin, finish};
@@ -24,19 +24,6 @@ pub struct Components {
     pub journal: Journal,
 }
 
-/// What the row of a step says of it.
-#[derive(Clone, Copy, Debug)]
-pub struct Ending {
-    /// The address of the instruction.
-    pub cia: u64,
-    /// Its word, where it was fetched.
-    pub word: Option<u32>,
-    /// How the step ended.
-    pub end: StepEnd,
-    /// The fetch's use and the others.
-    pub uses: [Use; 3],
-}
-
 /// The word at a real address, where its four bytes are all in RAM.
 #[tactic(auto, unfolding(ppc_step::specs::States::word_at))]
 fn fetch(store: &Store, at: u64) -> Option<u32>
@@ -48,11 +35,12 @@ fn fetch(store: &Store, at: u64) -> Option<u32>
     }
 }
 
-/// What a step says that has no word and no use.
-fn without_word(cia: u64, end: StepEnd) -> Ending
-    ensures { result ≡ wordless cia end }
+/// The row of a step that has no word and no use.
+fn without_word(thread: u8, cia: u64, end: StepEnd) -> StepRow
+    ensures { result ≡ wordless thread cia end }
 {
-    Ending {
+    StepRow {
+        thread,
         cia,
         word: None,
         end,
@@ -60,38 +48,32 @@ fn without_word(cia: u64, end: StepEnd) -> Ending
     }
 }
 
-/// A step of a thread below the count whose word is fetched from this real address.
+/// The row of a step of a thread below the count, which it makes, whose word is fetched from this real address.
 #[tactic(auto, unfolding(ppc_step::specs::Rule::EndFetched))]
-fn perform_at(parts: &mut Parts, store: &Store, thread: u8, at: u64) -> Ending
+fn perform_at(parts: &mut Parts, store: &Store, thread: u8, at: u64) -> StepRow
     requires { thread < length parts.old.threads }
-    ensures ends { EndsAt (thread_at parts.old.threads thread) store.now at result }
+    ensures row { EndsAt thread (thread_at parts.old.threads thread) store.now at result }
     ensures threads { parts.new.threads ≡ threads_after thread (behind result.word (thread_at parts.old.threads thread)) parts.old.threads result.end }
 {
     let cia = parts.threads.get(thread).nia();
-    let uses = [Use::Real(at), Use::Unused, Use::Unused];
-    match fetch(store, at) {
-        Some(word) => {
-            let end = ppc_step::step(parts, thread, word);
-            Ending {
-                cia,
-                word: Some(word),
-                end,
-                uses,
-            }
-        }
-        None => Ending {
-            cia,
-            word: None,
-            end: StepEnd::Stopped(StopName::NoStorage, at),
-            uses,
-        },
+    let word = fetch(store, at);
+    let end = match word {
+        Some(word) => ppc_step::step(parts, thread, word),
+        None => StepEnd::Stopped(StopName::NoStorage, at),
+    };
+    StepRow {
+        thread,
+        cia,
+        word,
+        end,
+        uses: [Use::Real(at), Use::Unused, Use::Unused],
     }
 }
 
-/// A step of a thread below the count. A stop changes no register.
-fn perform(parts: &mut Parts, store: &Store, thread: u8) -> Ending
+/// The row of a step of a thread below the count, which it makes. A stop changes no register.
+fn perform(parts: &mut Parts, store: &Store, thread: u8) -> StepRow
     requires { thread < length parts.old.threads }
-    ensures ends { EndsAs (thread_at parts.old.threads thread) store.now result }
+    ensures row { EndsAs thread (thread_at parts.old.threads thread) store.now result }
     ensures threads { parts.new.threads ≡ threads_after thread (behind result.word (thread_at parts.old.threads thread)) parts.old.threads result.end }
 {
     let registers = parts.threads.get(thread);
@@ -99,10 +81,12 @@ fn perform(parts: &mut Parts, store: &Store, thread: u8) -> Ending
     match begin(registers) {
         Beginning::Interrupted(cause) => {
             let end = StepEnd::Took(cause);
-            finish(parts, thread, end);
-            without_word(cia, end)
+            finish(parts, thread, &end);
+            without_word(thread, cia, end)
         }
-        Beginning::Untranslated => without_word(cia, StepEnd::Stopped(StopName::NoTranslation, 0)),
+        Beginning::Untranslated => {
+            without_word(thread, cia, StepEnd::Stopped(StopName::NoTranslation, 0))
+        }
         Beginning::Fetches(at) => perform_at(parts, store, thread, at),
     }
 }
@@ -112,17 +96,11 @@ pub fn step(components: &mut Components, thread: u8) -> StepEnd
     requires thread { thread < length components.old.parts.threads }
     requires most { components.old.journal.reserved ≤ 1048576 }
     requires room { HasRoom components.old.journal.reserved components.old.journal.rows }
-    ensures step { StepsTo components.old.journal components.new.journal (state_of components.old) (state_of components.new) thread result }
+    ensures step { StepsTo components.old.journal components.new.journal (state_in components.old) (state_in components.new) thread result }
     ensures store { components.new.store ≡ components.old.store }
 {
-    let ending = perform(&mut components.parts, &components.store, thread);
-    let uses = ending.uses;
-    components.journal.push_step(StepRow {
-        thread,
-        cia: ending.cia,
-        word: ending.word,
-        end: ending.end,
-        uses,
-    });
-    ending.end
+    let row = perform(&mut components.parts, &components.store, thread);
+    let end = row.end;
+    components.journal.push_step(row);
+    end
 }

@@ -1,13 +1,12 @@
 -- What comparisons, moves and operations of the condition register leave in a thread's registers.
 use Rattle.std.specs.Prelude.{ℕ, ◌==◌, if◌then◌else◌}
 use Rattle.thread_regs.specs.declared.registers.Thread.{Thread}
-use Rattle.thread_regs.specs.Registers.{gpr, with_gpr, with_cr}
+use Rattle.thread_regs.specs.Registers.{gpr, with_gpr, with_cr, advanced}
 use Rattle.ppc_ops.specs.declared.insn.Insn.{Insn}
 use Rattle.branch_unit.specs.Fields.{with_field, moved_fields}
 use Rattle.branch_unit.specs.Compare.{compare_of}
 use Rattle.branch_unit.specs.CrLogic.{cr_logic_of}
 use Rattle.branch_unit.specs.Select.{select_of}
-use Rattle.ppc_step.specs.FixedPoint.{advanced}
 
 -- a comparison of a and b leaves its order in field bf
 abbrev pub compare_effect : Insn → ℕ → ℕ → ℕ → Thread → Thread

@@ -1,37 +1,38 @@
 -- What each form comes to in a thread, unit by unit.
-use Rattle.std.specs.Prelude.{ℕ, ◌-◌, ◌^◌, Bool, true, false, if◌then◌else◌}
+use Rattle.std.specs.Prelude.{ℕ, Bool, true, false, if◌then◌else◌}
+use Rattle.ppc_bits.specs.Addresses.{next_address}
 use Rattle.thread_regs.specs.declared.registers.Thread.{Thread}
-use Rattle.thread_regs.specs.Registers.{gpr}
+use Rattle.thread_regs.specs.Registers.{gpr, advanced}
 use Rattle.ppc_ops.specs.declared.op.Op.{Op}
 use Rattle.ppc_ops.specs.declared.insn.Insn.{Insn}
 use Rattle.ppc_ops.specs.declared.insn.Insn.TheVariants.{AddImm, AddPc, Arith, MulHigh, Modulo, MulAdd, LogicImm, Logic, Unary, Count, Bytes, ShiftImm, RotWord, RotDouble, Select, CmpImm, Cmp, CmpByte, SetB, TrapImm, Trap, Jump, Branch, BranchReg, CrBit, CrMove, MoveXer, MfCr, MfOneCr, MtCr, MtOneCr, Access, AccessX, Block, MfSpr, MtSpr, MfTb, MfMsr, MtMsr, Sync, Eieio, TlbSync, Inval, Message, Isync, Rfid, Hrfid, Sc}
 use Rattle.ppc_ops.specs.Classes.{inhibits_caching}
-use Rattle.ppc_words.specs.declared.decoded.Decoded.{Decoded}
-use Rattle.ppc_words.specs.declared.decoded.Decoded.TheVariants.{Form, Zero, InvalidForm, Unsupported}
-use Rattle.ppc_words.specs.Decode.{decoded_of}
-use Rattle.journal_core.specs.declared.causes.Cause.TheVariants.{Program}
+use Rattle.word_decoder.specs.declared.decoded.Decoded.{Decoded}
+use Rattle.word_decoder.specs.declared.decoded.Decoded.TheVariants.{Form, Zero, InvalidForm, Unsupported}
+use Rattle.word_decoder.specs.Decode.{decoded_of}
 use Rattle.journal_core.specs.declared.rows.StopName.TheVariants as stops
 use Rattle.branch_unit.specs.Trap.{trap_of}
-use Rattle.system_ops.specs.Outcomes.{Outcome, Goes, Takes, Stops, unsupported}
-use Rattle.system_ops.specs.Refusals.{assist, hypervisor_only, unless}
+use Rattle.form_outcomes.specs.Outcomes.{Outcome, Goes, Takes, Stops, unless, unsupported}
+use Rattle.form_outcomes.specs.Programs.{trap, assist}
+use Rattle.system_ops.specs.Refusals.{hypervisor_only}
 use Rattle.system_ops.specs.System.{outcome_of as system_outcome}
-use Rattle.ppc_step.specs.FixedPoint.{following, advanced, base, turning, arith_effect, logic_effect}
+use Rattle.ppc_step.specs.FixedPoint.{base, turning, arith_effect, logic_effect}
 use Rattle.ppc_step.specs.Branching.{branch_effect}
 use Rattle.ppc_step.specs.Conditions.{compare_effect, cr_effect, select_effect, fields_effect, gpr_or_zero}
 
--- a trap whose condition holds is a program interrupt, bit 46 of SRR1; any other goes on
-abbrev pub trapped : Bool → Thread → Outcome
-trapped true t = Takes (Program (2 ^ (63 - 46)))
+-- a trap whose condition holds is a program interrupt; any other goes on
+abbrev pub trapped : Bool → Thread → Outcome Thread
+trapped true t = Takes trap
 trapped false t = Goes (advanced t)
 
 -- loads and stores are not executed yet; those that inhibit caching are first refused outside hypervisor state
-abbrev pub access_outcome : Op → ℕ → Thread → Outcome
+abbrev pub access_outcome : Op → ℕ → Thread → Outcome Thread
 access_outcome op word t = if inhibits_caching op then unless (hypervisor_only word t.msr) (unsupported word) else unsupported word
 
 -- what the form of this word comes to in a thread with these registers
-unfoldable pub form_outcome : Insn → ℕ → Thread → Outcome
+unfoldable pub form_outcome : Insn → ℕ → Thread → Outcome Thread
 form_outcome (AddImm op rt ra si) word t = Goes (arith_effect (AddImm op rt ra si) rt (base op ra t) 0 0 t)
-form_outcome (AddPc rt d) word t = Goes (arith_effect (AddPc rt d) rt (following t) 0 0 t)
+form_outcome (AddPc rt d) word t = Goes (arith_effect (AddPc rt d) rt (next_address t.nia) 0 0 t)
 form_outcome (Arith op rt ra rb oe rc) word t = Goes (arith_effect (Arith op rt ra rb oe rc) rt (gpr t ra) (gpr t rb) 0 t)
 form_outcome (MulHigh op rt ra rb rc) word t = Goes (arith_effect (MulHigh op rt ra rb rc) rt (gpr t ra) (gpr t rb) 0 t)
 form_outcome (Modulo op rt ra rb) word t = Goes (arith_effect (Modulo op rt ra rb) rt (gpr t ra) (gpr t rb) 0 t)
@@ -80,12 +81,12 @@ form_outcome Hrfid word t = system_outcome Hrfid word t
 form_outcome (Sc lev) word t = system_outcome (Sc lev) word t
 
 -- a word of zeros is left to the hypervisor; what is no form stops the machine with the word
-unfoldable pub decoded_outcome : Decoded → ℕ → Thread → Outcome
+unfoldable pub decoded_outcome : Decoded → ℕ → Thread → Outcome Thread
 decoded_outcome (Form insn) word t = form_outcome insn word t
 decoded_outcome Zero word t = Takes (assist word)
 decoded_outcome (InvalidForm op) word t = Stops stops.InvalidForm word
 decoded_outcome Unsupported word t = unsupported word
 
 -- what a word comes to
-unfoldable pub word_outcome : ℕ → Thread → Outcome
+unfoldable pub word_outcome : ℕ → Thread → Outcome Thread
 word_outcome word t = decoded_outcome (decoded_of word) word t

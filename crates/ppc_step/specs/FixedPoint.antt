@@ -5,21 +5,9 @@ use Rattle.ppc_ops.specs.declared.insn.Insn.{Insn}
 use Rattle.ppc_ops.specs.declared.results.ArithOut.{ArithOut}
 use Rattle.ppc_ops.specs.Classes.{takes_zero, turns_by_register}
 use Rattle.thread_regs.specs.declared.registers.Thread.{Thread}
-use Rattle.thread_regs.specs.Registers.{gpr, with_gpr, with_nia}
+use Rattle.thread_regs.specs.Registers.{gpr, with_gpr, advanced}
 use Rattle.fixed_arith.specs.Arith.{arith_of}
 use Rattle.fixed_logic.specs.Logic.{logic_of}
-
--- the sum modulo 2^64
-abbrev pub sum64 : ℕ → ℕ → ℕ
-sum64 a b = (a + b) % 2 ^ 64
-
--- the address of the instruction after this one
-abbrev pub following : Thread → ℕ
-following t = sum64 t.nia 4
-
--- gone on to it
-abbrev pub advanced : Thread → Thread
-advanced t = with_nia t (following t)
 
 -- the first field of the condition register written, if at all: it is the four highest bits
 abbrev pub with_cr0 : Option ℕ → Thread → Thread

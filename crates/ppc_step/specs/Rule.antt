@@ -1,26 +1,24 @@
 -- The rule of one step, and the state after it.
-use Rattle.std.specs.Prelude.{◌≡◌, ℕ, ◌<◌, List, [], ◌∷◌, slice_set, Option, Some, None, length}
+use Rattle.std.specs.Prelude.{◌≡◌, ℕ, ◌<◌, List, [], ◌∷◌, Option, Some, None, length}
 use Rattle.journal_core.specs.declared.rows.StepEnd.{StepEnd}
-use Rattle.journal_core.specs.declared.rows.StepEnd.TheVariants.{Ran, Took, Stopped}
+use Rattle.journal_core.specs.declared.rows.StepEnd.TheVariants.{Took, Stopped}
 use Rattle.journal_core.specs.declared.rows.StopName.TheVariants as stops
 use Rattle.journal_core.specs.declared.rows.StepRow.{StepRow}
 use Rattle.journal_core.specs.declared.rows.Use.{Use}
 use Rattle.journal_core.specs.declared.rows.Use.TheVariants.{Real, Unused}
-use Rattle.journal_core.specs.Rows.{Rows, Shown}
+use Rattle.journal_core.specs.Rows.{Rows, JournalView}
 use Rattle.journal_core.specs.Room.{HasRoom, most_steps}
 use Rattle.journal_core.specs.Past.{ram_after}
-use Rattle.journal_core.specs.Steps.{Own, IsOwn, with_own}
-use Rattle.journal_core.specs.Runs.{IsRun, Made}
+use Rattle.journal_core.specs.Steps.{StepRows, IsOwn, with_own}
+use Rattle.journal_core.specs.Runs.{IsRun, PastStep}
 use Rattle.journal_core.specs.Ends.{IsRunning}
 use Rattle.thread_regs.specs.declared.registers.Thread.{Thread}
 use Rattle.thread_regs.specs.Registers.{thread_at}
-use Rattle.interrupts.specs.Delivery.{delivered}
-use Rattle.interrupts.specs.Clock.{all_ticked}
 use Rattle.ppc_step.specs.declared.beginning.Beginning.{Beginning}
 use Rattle.ppc_step.specs.declared.beginning.Beginning.TheVariants.{Interrupted, Untranslated, Fetches}
 use Rattle.ppc_step.specs.Beginnings.{beginning}
 use Rattle.ppc_step.specs.States.{State, word_at}
-use Rattle.ppc_step.specs.Steps.{word_end, word_after}
+use Rattle.ppc_step.specs.Steps.{word_end, word_after, threads_after}
 
 -- the word that is fetched: none for a pending interrupt or an address that is to be translated
 abbrev pub fetched : List ℕ → Beginning → Option ℕ
@@ -53,19 +51,19 @@ pub record IsFetched (t : Thread) (ram : List ℕ) (row : StepRow) : Type 0 wher
   pub word : row.word ≡ fetched ram (beginning t)
 
 -- whose step it is: one of the threads', no earlier step is a stop, and a whole step fits a journal for the most steps
-pub record IsNext (before : Rows) (s : State) (own : Own) : Type 0 where
+pub record IsNext (before : Rows) (s : State) (own : StepRows) : Type 0 where
   pub below : own.row.thread < length s.threads
   pub running : IsRunning before.steps
   pub room : HasRoom most_steps before
 
 -- the uses are as said, and no entry of a table is kept
-pub record IsReal (t : Thread) (own : Own) : Type 0 where
+pub record IsReal (t : Thread) (own : StepRows) : Type 0 where
   pub uses : own.row.uses ≡ uses_for (beginning t)
   pub fills : own.fills ≡ []
 
 -- the rule for one step's rows, given the start, the rows and the steps before it and the state before it; the state
 -- after it is `next_state`
-pub record KeepsRule (start : State) (before : Rows) (past : List (Made State)) (s : State) (own : Own) : Type 0 where
+pub record KeepsRule (start : State) (before : Rows) (past : List (PastStep State)) (s : State) (own : StepRows) : Type 0 where
   pub thread : IsNext before s own
   pub fetch : IsFetched (thread_at s.threads own.row.thread) s.ram own.row
   pub walk : IsReal (thread_at s.threads own.row.thread) own
@@ -81,40 +79,31 @@ abbrev pub behind : Option ℕ → Thread → Thread
 behind (Some word) t = word_after word t
 behind None t = t
 
-abbrev pub with_thread : State → ℕ → Thread → State
-with_thread s number t = record s { threads = slice_set s.threads number t }
+-- the registers behind the form of a step, as they were where none goes on
+abbrev pub behind_step : State → StepRows → Thread
+behind_step s own = behind own.row.word (thread_at s.threads own.row.thread)
 
--- the clock has gone on
-abbrev pub after_tick : State → State
-after_tick s = record s { threads = all_ticked s.threads }
+-- The state after one step: the threads after it, by how it ends, and RAM with its write rows.
+unfoldable pub next_state : State → StepRows → State
+next_state s own = record s {
+  threads = threads_after own.row.thread (behind_step s own) s.threads own.row.end;
+  ram = ram_after s.ram own.writes;
+}
 
--- the state after the form of a step
-abbrev pub effected : State → Own → State
-effected s own = record (with_thread s own.row.thread (behind own.row.word (thread_at s.threads own.row.thread))) { ram = ram_after s.ram own.writes }
-
--- The state after a step that ends so: a form has its effect, and the clock ticks; an interrupt is delivered, and the clock
--- ticks; a stop changes nothing.
-abbrev pub after_end : State → Own → StepEnd → State
-after_end s own Ran = after_tick (effected s own)
-after_end s own (Took cause) = after_tick (with_thread s own.row.thread (delivered cause (thread_at s.threads own.row.thread)))
-after_end s own (Stopped name value) = s
-
--- the state after one step
-unfoldable pub next_state : State → Own → State
-next_state s own = after_end s own own.row.end
-
--- one step of the code: the rows that it adds, the state that it leaves, and the rule
-pub record StepsTo (old new : Shown) (s s' : State) (t : ℕ) (end : StepEnd) : Type 0 where
-  pub own : Own
+-- One step of the code: the rows that it adds, the state that it leaves, and the rule, where the rows before it are a run by
+-- the rule from some start to the state before it, and no stop is among them.
+pub record StepsTo (old new : JournalView) (s s' : State) (t : ℕ) (end : StepEnd) : Type 0 where
+  pub own : StepRows
   pub number : own.number ≡ length old.rows.steps
   pub thread : own.row.thread ≡ t
   pub ended : own.row.end ≡ end
   pub is_own : IsOwn own
   pub journal : new ≡ record old { rows = with_own old.rows own }
   pub state : s' ≡ next_state s own
-  pub rule : (begin : State) (past : List (Made State)) → IsRunning old.rows.steps → KeepsRule begin old.rows past s own
+  pub rule : (begin : State) (past : List (PastStep State)) → IsRun (KeepsRule begin) next_state begin old.rows past s →
+      IsRunning old.rows.steps → KeepsRule begin old.rows past s own
 
 -- a journal is lawful from a state to a state: each step keeps the rule, and the last state is the one after all steps
 pub record IsLawfulRun (begin : State) (rows : Rows) (now : State) : Type 0 where
-  pub made : List (Made State)
+  pub made : List (PastStep State)
   pub run : IsRun (KeepsRule begin) next_state begin rows made now

@@ -10,6 +10,10 @@ pub record State : Type 0 where
   pub threads : List Thread
   pub ram : List ℕ
 
+-- the state of these threads over this RAM: each state that is not made from another one is made so
+abbrev pub state_of : List Thread → List ℕ → State
+state_of ts bytes = record { threads = ts; ram = bytes }
+
 -- a thread's fetch asks for the address of its next instruction
 abbrev pub fetch_ask : Thread → Ask
 fetch_ask t = record { ea = t.nia; access = Fetch; msr = t.msr.0; lpid = t.lpidr; pid = t.pidr; ptcr = t.ptcr; amr = t.amr; iamr = t.iamr }

@@ -6,7 +6,7 @@ use Rattle.thread_regs.specs.declared.registers.Thread.{Thread}
 use Rattle.thread_regs.specs.Registers.{thread_at}
 use Rattle.interrupts.specs.Delivery.{delivered}
 use Rattle.interrupts.specs.Clock.{all_ticked}
-use Rattle.system_ops.specs.Outcomes.{end_of, after_of}
+use Rattle.form_outcomes.specs.Outcomes.{end_of, after_of}
 use Rattle.ppc_step.specs.Effects.{word_outcome}
 
 -- how a word ends

@@ -1,52 +1,43 @@
-//! The execution of forms that always go on.
+//! The execution of forms, each by its unit.
 
-ghost use Rattle.std.specs.Prelude.{◌≡◌, ℕ, true, false};
+ghost use Rattle.std.specs.Prelude.{◌≡◌, ◌<◌};
 ghost use Rattle.ppc_ops.specs.Forms.{IsForm};
-ghost use Rattle.fixed_arith.specs.Arith.{is_arithmetic};
-ghost use Rattle.fixed_logic.specs.Logic.{is_logic};
-ghost use Rattle.branch_unit.specs.Compare.{is_compare};
-ghost use Rattle.branch_unit.specs.Select.{is_select};
-ghost use Rattle.branch_unit.specs.Branch.{is_branch};
-ghost use Rattle.system_ops.specs.Outcomes.{Goes};
+ghost use Rattle.form_outcomes.specs.Outcomes.{ComesTo};
 ghost use Rattle.ppc_step.specs.Effects.{form_outcome};
-ghost use Rattle.ppc_step.specs.Executed.{writes_conditions, always_goes};
 
-use crate::branching::execute_branch;
+use crate::accesses::execute_access;
+use crate::branching::{execute_branch, execute_trap};
 use crate::conditions::{
     execute_compare, execute_cr_logic, execute_fields, execute_select, gpr_or_zero,
 };
-use crate::fixed_point::{base, execute_arith, execute_logic, following, turning};
+use crate::fixed_point::{base, execute_arith, execute_logic, turning};
+use form_outcomes::unsupported;
+use journal_core::StepEnd;
+use ppc_bits::next_address;
 use ppc_ops::Insn;
+use system_ops::system;
 use thread_regs::Thread;
 
-/// Executes an arithmetic form, and says whether it is one. Any other has no effect.
+/// Executes the form of this word in a thread of this number: the arm of its layout names its unit and the registers that the
+/// unit works on. An interrupt that the form takes is not delivered here, and changes no register yet.
 #[tactic(auto, unfolding(crate::specs::Effects::form_outcome))]
-fn execute_sums(thread: &mut Thread, insn: Insn) -> bool
-    requires { IsForm insn }
-    ensures executed { result ≡ is_arithmetic insn }
-    ensures done { (word : ℕ) → result ≡ true → form_outcome insn word thread.old ≡ Goes thread.new }
-    ensures other { result ≡ false → thread.new ≡ thread.old }
+pub fn execute(thread: &mut Thread, insn: Insn, number: u8, word: u32) -> StepEnd
+    requires form { IsForm insn }
+    requires number { number < 4 }
+    ensures { ComesTo (form_outcome insn word thread.old) thread.old thread.new result }
 {
     match insn {
+        // sums, products and quotients
         Insn::AddImm { op, rt, ra, .. } => {
-            execute_arith(thread, &insn, rt, base(thread, op, ra), 0, 0);
-            true
+            execute_arith(thread, &insn, rt, base(thread, op, ra), 0, 0)
         }
         Insn::AddPc { rt, .. } => {
-            execute_arith(thread, &insn, rt, following(thread), 0, 0);
-            true
+            execute_arith(thread, &insn, rt, next_address(thread.nia()), 0, 0)
         }
-        Insn::Arith { rt, ra, rb, .. } => {
-            execute_arith(thread, &insn, rt, thread.gpr(ra), thread.gpr(rb), 0);
-            true
-        }
-        Insn::MulHigh { rt, ra, rb, .. } => {
-            execute_arith(thread, &insn, rt, thread.gpr(ra), thread.gpr(rb), 0);
-            true
-        }
-        Insn::Modulo { rt, ra, rb, .. } => {
-            execute_arith(thread, &insn, rt, thread.gpr(ra), thread.gpr(rb), 0);
-            true
+        Insn::Arith { rt, ra, rb, .. }
+        | Insn::MulHigh { rt, ra, rb, .. }
+        | Insn::Modulo { rt, ra, rb, .. } => {
+            execute_arith(thread, &insn, rt, thread.gpr(ra), thread.gpr(rb), 0)
         }
         Insn::MulAdd {
             rt,
@@ -56,163 +47,62 @@ fn execute_sums(thread: &mut Thread, insn: Insn) -> bool
             ..
         } => {
             let c = thread.gpr(third);
-            execute_arith(thread, &insn, rt, thread.gpr(ra), thread.gpr(rb), c);
-            true
+            execute_arith(thread, &insn, rt, thread.gpr(ra), thread.gpr(rb), c)
         }
-        _ => false,
-    }
-}
-
-/// Executes a logic form, and says whether it is one. Any other has no effect.
-#[tactic(auto, unfolding(crate::specs::Effects::form_outcome))]
-fn execute_bits(thread: &mut Thread, insn: Insn) -> bool
-    requires { IsForm insn }
-    ensures executed { result ≡ is_logic insn }
-    ensures done { (word : ℕ) → result ≡ true → form_outcome insn word thread.old ≡ Goes thread.new }
-    ensures other { result ≡ false → thread.new ≡ thread.old }
-{
-    match insn {
-        Insn::LogicImm { ra, rs, .. } => {
-            execute_logic(thread, &insn, ra, thread.gpr(rs), 0);
-            true
-        }
-        Insn::Logic { ra, rs, rb, .. } => {
-            execute_logic(thread, &insn, ra, thread.gpr(rs), thread.gpr(rb));
-            true
-        }
-        Insn::Unary { ra, rs, .. } => {
-            execute_logic(thread, &insn, ra, thread.gpr(rs), 0);
-            true
-        }
-        Insn::Count { ra, rs, .. } => {
-            execute_logic(thread, &insn, ra, thread.gpr(rs), 0);
-            true
-        }
-        Insn::Bytes { ra, rs, rb, .. } => {
-            execute_logic(thread, &insn, ra, thread.gpr(rs), thread.gpr(rb));
-            true
-        }
-        Insn::ShiftImm { ra, rs, .. } => {
-            execute_logic(thread, &insn, ra, thread.gpr(rs), 0);
-            true
+        // logic, shifts and rotations
+        Insn::LogicImm { ra, rs, .. }
+        | Insn::Unary { ra, rs, .. }
+        | Insn::Count { ra, rs, .. }
+        | Insn::ShiftImm { ra, rs, .. } => execute_logic(thread, &insn, ra, thread.gpr(rs), 0),
+        Insn::Logic { ra, rs, rb, .. } | Insn::Bytes { ra, rs, rb, .. } => {
+            execute_logic(thread, &insn, ra, thread.gpr(rs), thread.gpr(rb))
         }
         Insn::RotWord { ra, rs, by, .. } => {
-            execute_logic(thread, &insn, ra, thread.gpr(rs), thread.gpr(by));
-            true
+            execute_logic(thread, &insn, ra, thread.gpr(rs), thread.gpr(by))
         }
         Insn::RotDouble { op, ra, rs, by, .. } => {
             let b = turning(thread, op, by);
-            execute_logic(thread, &insn, ra, thread.gpr(rs), b);
-            true
+            execute_logic(thread, &insn, ra, thread.gpr(rs), b)
         }
-        _ => false,
-    }
-}
-
-/// Executes a comparison, and says whether the form is one. Any other has no effect.
-#[tactic(auto, unfolding(crate::specs::Effects::form_outcome))]
-fn execute_comparisons(thread: &mut Thread, insn: Insn) -> bool
-    requires { IsForm insn }
-    ensures executed { result ≡ is_compare insn }
-    ensures done { (word : ℕ) → result ≡ true → form_outcome insn word thread.old ≡ Goes thread.new }
-    ensures other { result ≡ false → thread.new ≡ thread.old }
-{
-    match insn {
-        Insn::CmpImm { bf, ra, .. } => {
-            execute_compare(thread, &insn, bf, thread.gpr(ra), 0);
-            true
+        // comparisons, choices, and the condition register
+        Insn::CmpImm { bf, ra, .. } => execute_compare(thread, &insn, bf, thread.gpr(ra), 0),
+        Insn::Cmp { bf, ra, rb, .. } | Insn::CmpByte { bf, ra, rb, .. } => {
+            execute_compare(thread, &insn, bf, thread.gpr(ra), thread.gpr(rb))
         }
-        Insn::Cmp { bf, ra, rb, .. } => {
-            execute_compare(thread, &insn, bf, thread.gpr(ra), thread.gpr(rb));
-            true
-        }
-        Insn::CmpByte { bf, ra, rb, .. } => {
-            execute_compare(thread, &insn, bf, thread.gpr(ra), thread.gpr(rb));
-            true
-        }
-        _ => false,
-    }
-}
-
-/// Executes a choice or a copy of the condition register, and says whether the form is one. Any other has no effect.
-#[tactic(auto, unfolding(crate::specs::Effects::form_outcome))]
-fn execute_choices(thread: &mut Thread, insn: Insn) -> bool
-    requires { IsForm insn }
-    ensures executed { result ≡ is_select insn }
-    ensures done { (word : ℕ) → result ≡ true → form_outcome insn word thread.old ≡ Goes thread.new }
-    ensures other { result ≡ false → thread.new ≡ thread.old }
-{
-    match insn {
         Insn::Select { rt, ra, rb, .. } => {
             let a = gpr_or_zero(thread, ra);
-            execute_select(thread, &insn, rt, a, thread.gpr(rb));
-            true
+            execute_select(thread, &insn, rt, a, thread.gpr(rb))
         }
-        Insn::SetB { rt, .. } => {
-            execute_select(thread, &insn, rt, 0, 0);
-            true
+        Insn::SetB { rt, .. } | Insn::MfCr { rt } | Insn::MfOneCr { rt, .. } => {
+            execute_select(thread, &insn, rt, 0, 0)
         }
-        Insn::MfCr { rt } => {
-            execute_select(thread, &insn, rt, 0, 0);
-            true
-        }
-        Insn::MfOneCr { rt, .. } => {
-            execute_select(thread, &insn, rt, 0, 0);
-            true
-        }
-        _ => false,
-    }
-}
-
-/// Executes an operation or a move of the condition register, and says whether the form is one. Any other has no effect.
-#[tactic(auto, unfolding(crate::specs::Effects::form_outcome))]
-fn execute_conditions(thread: &mut Thread, insn: Insn) -> bool
-    requires { IsForm insn }
-    ensures executed { result ≡ writes_conditions insn }
-    ensures done { (word : ℕ) → result ≡ true → form_outcome insn word thread.old ≡ Goes thread.new }
-    ensures other { result ≡ false → thread.new ≡ thread.old }
-{
-    match insn {
         Insn::CrBit { .. } | Insn::CrMove { .. } | Insn::MoveXer { .. } => {
-            execute_cr_logic(thread, &insn);
-            true
+            execute_cr_logic(thread, &insn)
         }
-        Insn::MtCr { rs, fxm } | Insn::MtOneCr { rs, fxm } => {
-            execute_fields(thread, fxm, rs);
-            true
-        }
-        _ => false,
-    }
-}
-
-/// Executes a branch, and says whether the form is one. Any other has no effect.
-#[tactic(auto, unfolding(crate::specs::Effects::form_outcome))]
-fn execute_branches(thread: &mut Thread, insn: Insn) -> bool
-    requires { IsForm insn }
-    ensures executed { result ≡ is_branch insn }
-    ensures done { (word : ℕ) → result ≡ true → form_outcome insn word thread.old ≡ Goes thread.new }
-    ensures other { result ≡ false → thread.new ≡ thread.old }
-{
-    match insn {
+        Insn::MtCr { rs, fxm } | Insn::MtOneCr { rs, fxm } => execute_fields(thread, fxm, rs),
+        // branches and traps
         Insn::Jump { .. } | Insn::Branch { .. } | Insn::BranchReg { .. } => {
-            execute_branch(thread, &insn);
-            true
+            execute_branch(thread, &insn)
         }
-        _ => false,
+        Insn::TrapImm { ra, .. } => execute_trap(thread, &insn, thread.gpr(ra), 0),
+        Insn::Trap { ra, rb, .. } => execute_trap(thread, &insn, thread.gpr(ra), thread.gpr(rb)),
+        // loads and stores, which are not executed
+        Insn::Access { .. } | Insn::Block { .. } => unsupported(word),
+        Insn::AccessX { op, .. } => execute_access(thread, op, word),
+        // system forms
+        Insn::MfSpr { .. }
+        | Insn::MtSpr { .. }
+        | Insn::MfTb { .. }
+        | Insn::MfMsr { .. }
+        | Insn::MtMsr { .. }
+        | Insn::Sync { .. }
+        | Insn::Eieio
+        | Insn::TlbSync
+        | Insn::Inval { .. }
+        | Insn::Message { .. }
+        | Insn::Isync
+        | Insn::Rfid
+        | Insn::Hrfid
+        | Insn::Sc { .. } => system(&insn, word, thread, number).end,
     }
-}
-
-/// Executes a form that always goes on, and says whether it is one. Any other has no effect.
-pub fn execute(thread: &mut Thread, insn: Insn) -> bool
-    requires { IsForm insn }
-    ensures executed { result ≡ always_goes insn }
-    ensures done { (word : ℕ) → result ≡ true → form_outcome insn word thread.old ≡ Goes thread.new }
-    ensures other { result ≡ false → thread.new ≡ thread.old }
-{
-    execute_sums(thread, insn)
-        || execute_bits(thread, insn)
-        || execute_comparisons(thread, insn)
-        || execute_choices(thread, insn)
-        || execute_conditions(thread, insn)
-        || execute_branches(thread, insn)
 }

@@ -6,33 +6,14 @@ ghost use Rattle.ppc_ops.specs.Forms.{IsForm};
 ghost use Rattle.ppc_ops.specs.Classes.{turns_by_register};
 ghost use Rattle.fixed_arith.specs.Arith.{IsArithmetic};
 ghost use Rattle.fixed_logic.specs.Logic.{IsLogic};
+ghost use Rattle.form_outcomes.specs.Outcomes.{ComesTo, Goes};
 ghost use Rattle.ppc_step.specs.FixedPoint as points;
 
 use fixed_arith::arith;
 use fixed_logic::logic;
+use journal_core::StepEnd;
 use ppc_ops::{ArithOut, Insn, Op, takes_zero, turns_by_register};
 use thread_regs::Thread;
-
-/// The sum modulo 2^64.
-fn sum(a: u64, b: u64) -> u64
-    ensures { result ≡ points.sum64 a b }
-{
-    a.wrapping_add(b)
-}
-
-/// The address of the instruction after this one.
-pub fn following(thread: &Thread) -> u64
-    ensures { result ≡ points.following thread.now }
-{
-    sum(thread.nia(), 4)
-}
-
-/// Goes on to the next instruction.
-pub fn advance(thread: &mut Thread)
-    ensures { thread.new ≡ points.advanced thread.old }
-{
-    thread.set_nia(following(thread));
-}
 
 /// The value of a register, or 0 where its number is 0 and the operation takes 0 in its place.
 pub fn base(thread: &Thread, op: Op, ra: u8) -> u64
@@ -63,18 +44,19 @@ fn leave(thread: &mut Thread, register: u8, out: ArithOut)
     thread.set_gpr(register, out.value);
     thread.xer = out.xer;
     write_cr0(thread, out.cr0);
-    advance(thread);
+    thread.advance();
 }
 
 /// Executes an arithmetic form, whose operands have these values.
-pub fn execute_arith(thread: &mut Thread, insn: &Insn, rt: u8, a: u64, b: u64, c: u64)
+pub fn execute_arith(thread: &mut Thread, insn: &Insn, rt: u8, a: u64, b: u64, c: u64) -> StepEnd
     requires form { IsForm insn.now }
     requires arithmetic { IsArithmetic insn.now }
     requires rt { rt < 32 }
-    ensures { thread.new ≡ points.arith_effect insn.now rt a b c thread.old }
+    ensures { ComesTo (Goes (points.arith_effect insn.now rt a b c thread.old)) thread.old thread.new result }
 {
     let out = arith(insn, a, b, c, thread.xer);
     leave(thread, rt, out);
+    StepEnd::Ran
 }
 
 /// The value of the register that `by` numbers, where the operation turns by a register.
@@ -90,12 +72,13 @@ pub fn turning(thread: &Thread, op: Op, by: u8) -> u64
 }
 
 /// Executes a logic form, whose sources have these values.
-pub fn execute_logic(thread: &mut Thread, insn: &Insn, ra: u8, s: u64, b: u64)
+pub fn execute_logic(thread: &mut Thread, insn: &Insn, ra: u8, s: u64, b: u64) -> StepEnd
     requires form { IsForm insn.now }
     requires logic { IsLogic insn.now }
     requires ra { ra < 32 }
-    ensures { thread.new ≡ points.logic_effect insn.now ra s b thread.old }
+    ensures { ComesTo (Goes (points.logic_effect insn.now ra s b thread.old)) thread.old thread.new result }
 {
     let out = logic(insn, s, b, thread.gpr(ra), thread.xer);
     leave(thread, ra, out);
+    StepEnd::Ran
 }

@@ -18,14 +18,14 @@ pub struct Parts {
 
 /// Ends a step of a thread below the count, whose form has left its registers: an interrupt is delivered to it, and then every
 /// thread's clock ticks; a stop changes nothing.
-pub fn finish(parts: &mut Parts, thread: u8, end: StepEnd)
+pub fn finish(parts: &mut Parts, thread: u8, end: &StepEnd)
     requires { thread < length parts.old.threads }
-    ensures { parts.new.threads ≡ threads_after thread (thread_at parts.old.threads thread) parts.old.threads end }
+    ensures { parts.new.threads ≡ threads_after thread (thread_at parts.old.threads thread) parts.old.threads end.now }
 {
     match end {
         StepEnd::Ran => tick(&mut parts.threads),
         StepEnd::Took(cause) => {
-            deliver(&cause, parts.threads.get_mut(thread));
+            deliver(cause, parts.threads.get_mut(thread));
             tick(&mut parts.threads);
         }
         StepEnd::Stopped(_, _) => {}
@@ -41,6 +41,6 @@ pub fn step(parts: &mut Parts, thread: u8, word: u32) -> StepEnd
 {
     let count = parts.threads.count();
     let end = execute_word(parts.threads.get_mut(thread), thread, word);
-    finish(parts, thread, end);
+    finish(parts, thread, &end);
     end
 }

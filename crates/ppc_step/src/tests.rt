@@ -215,6 +215,6 @@ fn a_thread_begins_by_its_relocation(rt: HostRuntime) {
     assert_eq!(rt; begin(threads.get(0)), Beginning::Untranslated);
     let mut parts = Parts { threads };
     assert_eq!(rt; parts.threads.count(), 1);
-    finish(&mut parts, 0, StepEnd::Stopped(StopName::NoTranslation, 0));
+    finish(&mut parts, 0, &StepEnd::Stopped(StopName::NoTranslation, 0));
     assert_eq!(rt; parts.threads.get(0).tb, 0);
 }

@@ -1,7 +1,17 @@
 //! Numbers and their bytes.
 
-ghost use Rattle.std.specs.Prelude.{◌≡◌, ◌<◌, ◌≤◌, ◌^◌, ◌+◌, length};
+ghost use Rattle.std.specs.Prelude.{◌≡◌, ◌<◌, ◌≤◌, ◌^◌, ◌+◌, [], ◌∷◌, length};
 ghost use Rattle.journal_core.specs.Bytes.{le_value, placed, piece};
+
+/// The number of four bytes, the lowest first. A compiler makes one load of it where the bytes lie one after another, as those of
+/// each instruction's word do.
+#[tactic(auto, unfolding(journal_core::specs::Bytes::le_value))]
+fn word_of(a: u8, b: u8, c: u8, d: u8) -> u64
+    ensures value { result ≡ le_value (a ∷ b ∷ c ∷ d ∷ []) }
+    ensures below { result < 256 ^ 4 }
+{
+    u64::from(a) + 256 * (u64::from(b) + 256 * (u64::from(c) + 256 * u64::from(d)))
+}
 
 /// The number of some bytes, the lowest first.
 pub fn number_of(bytes: &[u8]) -> u64
@@ -24,7 +34,7 @@ pub fn place_bytes(ram: &mut [u8], at: usize, bytes: &[u8])
     ram[at..at + bytes.len()].copy_from_slice(bytes);
 }
 
-/// The number in storage, of so many bytes, the lowest first.
+/// The number of this many bytes in storage, the lowest first.
 #[tactic(auto, unfolding(journal_core::specs::Bytes::piece))]
 pub fn number_at(ram: &[u8], at: usize, size: usize) -> u64
     requires within { at + size ≤ length ram.now }
@@ -32,5 +42,9 @@ pub fn number_at(ram: &[u8], at: usize, size: usize) -> u64
     ensures value { result ≡ le_value (piece ram.now at size) }
     ensures below { result < 256 ^ size }
 {
-    number_of(&ram[at..at + size])
+    let bytes = &ram[at..at + size];
+    match bytes {
+        [a, b, c, d] => word_of(*a, *b, *c, *d),
+        _ => number_of(bytes),
+    }
 }

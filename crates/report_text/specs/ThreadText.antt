@@ -1,5 +1,5 @@
 -- The registers of threads, as text.
-use Rattle.std.specs.Prelude.{ℕ, ◌+◌, ◌/◌, ◌%◌, List, [], ◌∷◌, ◌++◌, codes, slice_index}
+use Rattle.std.specs.Prelude.{ℕ, ◌+◌, ◌/◌, ◌%◌, List, [], ◌∷◌, ◌++◌, codes}
 use Rattle.std.specs.Fmt.{decimal}
 use Rattle.line_text.specs.Text.{hex, end_of_line, text_of}
 use Rattle.ppc_ops.specs.Results.{xer_number}
@@ -40,7 +40,7 @@ dar_line t = codes "dar " ++ hex 16 t.dar ++ codes " dsisr " ++ hex 8 t.dsisr ++
 abbrev pub hdar_line : Thread → List ℕ
 hdar_line t = codes "hdar " ++ hex 16 t.hdar ++ codes " hdsisr " ++ hex 8 t.hdsisr ++ codes " asdr " ++ hex 16 t.asdr ++ end_of_line
 
--- the logical partition has 12 bits, and the process 20
+-- the number of the logical partition has 12 bits, and that of the process 20
 abbrev pub heir_line : Thread → List ℕ
 heir_line t = codes "heir " ++ hex 8 t.heir ++ codes " lpidr " ++ hex 3 t.lpidr ++ codes " pidr " ++ hex 5 t.pidr ++ end_of_line
 

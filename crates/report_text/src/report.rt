@@ -3,6 +3,7 @@
 ghost use Rattle.std.specs.Prelude.{◌≡◌};
 ghost use Rattle.outer_io.specs.Outside.{Puts};
 ghost use Rattle.line_text.specs.Text.{text_of};
+ghost use Rattle.thread_regs.specs.Soundness.{AreWithinWidths};
 ghost use Rattle.report_text.specs.ThreadText.{thread_texts};
 ghost use Rattle.report_text.specs.Report.{time_base, report};
 
@@ -36,6 +37,7 @@ fn time_base(threads: &[Thread]) -> u64
 
 /// Puts the lines of each thread.
 fn put_threads<K: Sink>(threads: &[Thread], out: &mut K) -> Result<(), SinkFault>
+    requires { AreWithinWidths threads.now }
     ensures { Puts (K.told out.old) (K.told out.new) (K.faults out.old) (K.faults out.new) result (text_of (thread_texts 0 threads.now)) }
 {
     for (number, thread) in threads.iter().enumerate() {
@@ -44,9 +46,10 @@ fn put_threads<K: Sink>(threads: &[Thread], out: &mut K) -> Result<(), SinkFault
     Ok(())
 }
 
-/// Puts the report of a machine, each line as one piece. Stops at the first fault of the sink, which
+/// Puts the report of a machine, whose LPIDR and PIDR keep to their widths, each line as one piece. Stops at the first fault of the sink, which
 /// then has a front of the report.
 pub fn print_report<K: Sink>(parts: &ReportParts, out: &mut K) -> Result<(), SinkFault>
+    requires { AreWithinWidths parts.now.threads.now }
     ensures { Puts (K.told out.old) (K.told out.new) (K.faults out.old) (K.faults out.new) result (report parts.now.end parts.now.threads.now parts.now.journal.now.rows) }
 {
     let threads = parts.threads.as_slice();

@@ -1,4 +1,5 @@
 ghost use Rattle.std.specs.Prelude.{◌≡◌, None, Some};
+ghost use Rattle.thread_regs.specs.Soundness.{IsWithinWidths};
 
 use super::*;
 use journal_core::{Ended, Journal, RowKind, StepEnd, StepRow, StopName, Use};
@@ -120,7 +121,9 @@ fn set_each_register(thread: &mut Thread) {
     thread.heir = 0x30;
 }
 
-fn set_each_control_register(thread: &mut Thread) {
+fn set_each_control_register(thread: &mut Thread)
+    ensures { IsWithinWidths thread.new }
+{
     thread.lpidr = 0xabc;
     thread.pidr = 0xf_edcb;
     thread.dec = 0x33;

@@ -1,6 +1,7 @@
 //! The lines of a thread.
 
 ghost use Rattle.std.specs.Prelude.{◌≡◌, ◌+◌, ◌≤◌};
+ghost use Rattle.thread_regs.specs.Soundness.{IsWithinWidths};
 ghost use Rattle.report_text.specs.ThreadText.{thread_lines, thread_line, nia_line, cr_line, lr_line, gpr_line, srr_line, dar_line, hdar_line, heir_line, dec_line, lpcr_line, amr_line, sprg_line};
 
 use line_text::{Line, Lines};
@@ -118,15 +119,16 @@ fn hdar_line(thread: &Thread) -> Line
 }
 
 fn heir_line(thread: &Thread) -> Line
+    requires { IsWithinWidths thread.now }
     ensures { result ≡ heir_line thread.now }
 {
     let mut line = Line::new();
     line.push_bytes(b"heir ");
     line.push_hex(8, u64::from(thread.heir));
     line.push_bytes(b" lpidr ");
-    line.push_low_hex(3, u64::from(thread.lpidr));
+    line.push_hex(3, u64::from(thread.lpidr));
     line.push_bytes(b" pidr ");
-    line.push_low_hex(5, u64::from(thread.pidr));
+    line.push_hex(5, u64::from(thread.pidr));
     line.push(b'\n');
     line
 }
@@ -194,6 +196,7 @@ pub(crate) struct ThreadLines<'a> {
     pub(crate) number: usize,
     /// Its registers.
     pub(crate) thread: &'a Thread,
+    pub(crate) ghost widths: { IsWithinWidths thread.now },
 }
 
 impl Lines for ThreadLines<'_> {

@@ -8,15 +8,19 @@ use Rattle.ppc_spr.specs.declared.answer.Access.TheVariants.{Program, NotInProfi
 use Rattle.ppc_spr.specs.declared.msr.Msr.{Msr}
 use Rattle.ppc_spr.specs.declared.msr.ProfileBits.{ProfileBits}
 use Rattle.ppc_spr.specs.Access.{access_of, listed_access, is_privileged}
+use Rattle.ppc_spr.specs.Values.{may_have}
 use Rattle.ppc_spr.specs.Sprs.{spr_of, is_hypervisor, is_read_only}
 use Rattle.ppc_spr.specs.Msrs.{hv, pr, after_rfid, after_hrfid}
 use Rattle.journal_core.specs.declared.causes.Cause.{Cause}
 use Rattle.thread_regs.specs.declared.registers.Thread.{Thread}
-use Rattle.thread_regs.specs.Registers.{gpr, with_gpr}
-use Rattle.system_ops.specs.Outcomes.{Outcome, Goes, following, aligned, going_on, enters, unsupported}
-use Rattle.system_ops.specs.Refusals.{privileged, assist, first, unless}
-use Rattle.system_ops.specs.Lpcr.{leaves_invalidations}
-use Rattle.system_ops.specs.Moves.{unknown, read_by, is_taken_by, given, write_by, moved_msr}
+use Rattle.thread_regs.specs.Registers.{gpr, with_gpr, advanced}
+use Rattle.ppc_bits.specs.Addresses.{next_address, aligned}
+use Rattle.form_outcomes.specs.Outcomes.{Outcome, Goes, unsupported, unless}
+use Rattle.form_outcomes.specs.Programs.{privileged, assist}
+use Rattle.system_ops.specs.Going.{enters}
+use Rattle.system_ops.specs.Refusals.{first}
+use Rattle.ppc_spr.specs.Lpcr.{leaves_invalidations}
+use Rattle.system_ops.specs.Moves.{unknown, read_by, given, write_by, moved_msr}
 use Rattle.system_ops.specs.System.{reaches_all, outcome_of}
 use Rattle.system_ops.specs.Laws.{is_program, ProblemStateIsRefused}
 
@@ -27,7 +31,7 @@ either_way true c x y z f h k l = h
 either_way false true x y z f h k l = k
 either_way false false x y z f h k l = l
 
-taken_or_not : (b : Bool) (x y : Outcome) → is_program x ≡ false → is_program y ≡ false → is_program (if b then x else y) ≡ false
+taken_or_not : (b : Bool) (x y : Outcome Thread) → is_program x ≡ false → is_program y ≡ false → is_program (if b then x else y) ≡ false
 taken_or_not true x y h k = h
 taken_or_not false x y h k = k
 
@@ -51,7 +55,7 @@ write_told value n word t = told (is_privileged n && pr t.msr) (listed_access (s
     (listed (spr_of n) t.msr true (λ a. is_program (write_by a value n word t)) refl refl (λ s. given_told s))
   where
     given_told : (s : Spr) → is_program (given s value t) ≡ false
-    given_told s = taken_or_not (is_taken_by s value) _ _ refl refl
+    given_told s = taken_or_not (may_have s value) _ _ refl refl
 
 -- ---- the others
 
@@ -59,16 +63,16 @@ entering : (r : Result Msr ProfileBits) (address : ℕ) (t : Thread) → is_prog
 entering (Ok m) address t = refl
 entering (Err refused) address t = refl
 
-refused : (p : Bool) (o : Outcome) → is_program o ≡ false → is_program (unless (if p then Some privileged else None) o) ≡ p
+refused : (p : Bool) (o : Outcome Thread) → is_program o ≡ false → is_program (unless (if p then Some privileged else None) o) ≡ p
 refused true o h = refl
 refused false o h = h
 
-refused_hyper : (p h : Bool) (word : ℕ) (o : Outcome) → is_program o ≡ false → is_program (unless (if p then Some privileged else (if h then None else Some (assist word))) o) ≡ p
+refused_hyper : (p h : Bool) (word : ℕ) (o : Outcome Thread) → is_program o ≡ false → is_program (unless (if p then Some privileged else (if h then None else Some (assist word))) o) ≡ p
 refused_hyper true h word o k = refl
 refused_hyper false true word o k = k
 refused_hyper false false word o k = refl
 
-refused_first : (p : Bool) (later : Option Cause) (o : Outcome) → is_program (unless later o) ≡ false → is_program (unless (first (if p then Some privileged else None) later) o) ≡ p
+refused_first : (p : Bool) (later : Option Cause) (o : Outcome Thread) → is_program (unless later o) ≡ false → is_program (unless (first (if p then Some privileged else None) later) o) ≡ p
 refused_first true later o h = refl
 refused_first false later o h = h
 
@@ -95,12 +99,12 @@ unfolding outcome_of
 refused_alone (insn.MfSpr rt n) word t = read_told rt n word t
 refused_alone (insn.MtSpr rs n) word t = write_told (gpr t rs) n word t
 refused_alone (insn.MfTb rt n) word t = time_base rt n word t (n == 268) refl
-refused_alone (insn.MfMsr rt) word t = refused (pr t.msr) (Goes (going_on (with_gpr t rt t.msr.0))) refl
-refused_alone (insn.MtMsr op rs l) word t = refused (pr t.msr) (enters (moved_msr op t.msr (gpr t rs) l) (following t.nia) t) (entering (moved_msr op t.msr (gpr t rs) l) (following t.nia) t)
+refused_alone (insn.MfMsr rt) word t = refused (pr t.msr) (Goes (advanced (with_gpr t rt t.msr.0))) refl
+refused_alone (insn.MtMsr op rs l) word t = refused (pr t.msr) (enters (moved_msr op t.msr (gpr t rs) l) (next_address t.nia) t) (entering (moved_msr op t.msr (gpr t rs) l) (next_address t.nia) t)
 refused_alone (insn.Sync l) word t = refl
 refused_alone insn.Eieio word t = refl
-refused_alone insn.TlbSync word t = refused_first (pr t.msr) _ (unsupported word) (assisted (hv t.msr || leaves_invalidations t) word)
-refused_alone (insn.Inval op rb rs ric prs r) word t = refused_first (pr t.msr) _ (unsupported word) (both_assisted (reaches_all op) (hv t.msr || leaves_invalidations t) (hv t.msr || prs) word)
+refused_alone insn.TlbSync word t = refused_first (pr t.msr) _ (unsupported word) (assisted (hv t.msr || leaves_invalidations t.lpcr) word)
+refused_alone (insn.Inval op rb rs ric prs r) word t = refused_first (pr t.msr) _ (unsupported word) (both_assisted (reaches_all op) (hv t.msr || leaves_invalidations t.lpcr) (hv t.msr || prs) word)
 refused_alone (insn.Message op rb) word t = refused_hyper (pr t.msr) (hv t.msr) word (unsupported word) refl
 refused_alone insn.Isync word t = refl
 refused_alone insn.Rfid word t = refused (pr t.msr) (enters (after_rfid t.msr t.srr1) (aligned t.srr0) t) (entering (after_rfid t.msr t.srr1) (aligned t.srr0) t)

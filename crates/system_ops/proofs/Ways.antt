@@ -8,25 +8,29 @@ use Rattle.ppc_spr.specs.declared.spr.Spr.{Spr}
 use Rattle.ppc_spr.specs.declared.answer.Access.{Access}
 use Rattle.ppc_spr.specs.declared.answer.Access.TheVariants.{Program, NotInProfile, Assist, Allowed}
 use Rattle.ppc_spr.specs.Access.{access_of, is_privileged, listed_access}
+use Rattle.ppc_spr.specs.Values.{may_have}
 use Rattle.ppc_spr.specs.Sprs.{spr_of, is_hypervisor, is_read_only}
 use Rattle.ppc_spr.specs.Msrs.{hv, pr, after_rfid, after_hrfid}
 use Rattle.journal_core.specs.declared.causes.Cause.{Cause}
 use Rattle.journal_core.specs.declared.rows.StopName.TheVariants as names
 use Rattle.thread_regs.specs.declared.registers.Thread.{Thread}
-use Rattle.thread_regs.specs.Registers.{gpr, with_gpr}
+use Rattle.thread_regs.specs.Registers.{gpr, with_gpr, advanced}
 use Rattle.thread_regs.specs.Specials.{spr, with_spr}
-use Rattle.system_ops.specs.Outcomes.{Outcome, Goes, Takes, Stops, after_of, following, aligned, going_on, enters, unsupported}
-use Rattle.system_ops.specs.Refusals.{privileged, assist, supervisor_only, hypervisor_only, first, unless}
-use Rattle.system_ops.specs.Moves.{read_by, is_taken_by, write_by, moved_msr}
+use Rattle.ppc_bits.specs.Addresses.{next_address, aligned}
+use Rattle.form_outcomes.specs.Outcomes.{Outcome, Goes, Takes, Stops, after_of, unsupported, unless}
+use Rattle.form_outcomes.specs.Programs.{privileged, assist}
+use Rattle.system_ops.specs.Going.{enters}
+use Rattle.system_ops.specs.Refusals.{supervisor_only, hypervisor_only, first}
+use Rattle.system_ops.specs.Moves.{read_by, write_by, moved_msr}
 use Rattle.system_ops.specs.System.{guest_refused, reaching_all, outcome_of, system_after}
 
 -- the registers with which it goes on have this, if it does
-abbrev pub Going : (Thread → Type 0) → Outcome → Type 0
+abbrev pub Going : (Thread → Type 0) → Outcome Thread → Type 0
 Going P (Goes after) = P after
 Going P (Takes cause) = Unit {0}
 Going P (Stops name value) = Unit {0}
 
-behind : (P : Thread → Type 0) (o : Outcome) (t : Thread) → P t → Going P o → P (after_of o t)
+behind : (P : Thread → Type 0) (o : Outcome Thread) (t : Thread) → P t → Going P o → P (after_of o t)
 behind P (Goes after) t before going = going
 behind P (Takes cause) t before going = before
 behind P (Stops name value) t before going = before
@@ -38,20 +42,20 @@ pub record IsWritten (t : Thread) (s : Spr) : Type 0 where
 
 -- each way in which a form goes on
 pub record Ways (P : Thread → Type 0) (t : Thread) : Type 0 where
-  pub onward : P (going_on t)
-  pub general : (rt value : ℕ) → P (going_on (with_gpr t rt value))
-  pub special : (s : Spr) (value : ℕ) → IsWritten t s → is_taken_by s value ≡ true → P (going_on (with_spr t s value))
-  pub moved : (op : Op) (rs : ℕ) (l : Bool) → Going P (enters (moved_msr op t.msr rs l) (following t.nia) t)
+  pub onward : P (advanced t)
+  pub general : (rt value : ℕ) → P (advanced (with_gpr t rt value))
+  pub special : (s : Spr) (value : ℕ) → IsWritten t s → may_have s value ≡ true → P (advanced (with_spr t s value))
+  pub moved : (op : Op) (rs : ℕ) (l : Bool) → Going P (enters (moved_msr op t.msr rs l) (next_address t.nia) t)
   pub returned : Going P (enters (after_rfid t.msr t.srr1) (aligned t.srr0) t)
   pub hyper : hv t.msr ≡ true → Going P (enters (after_hrfid t.msr t.hsrr1) (aligned t.hsrr0) t)
 
 -- ---- refusals
 
-allowed : (P : Thread → Type 0) (refusal : Option Cause) (o : Outcome) → Going P o → Going P (unless refusal o)
+allowed : (P : Thread → Type 0) (refusal : Option Cause) (o : Outcome Thread) → Going P o → Going P (unless refusal o)
 allowed P (Some cause) o going = tt
 allowed P None o going = going
 
-for_hypervisor : (P : Thread → Type 0) (p h : Bool) (c d : Cause) (o : Outcome) → (h ≡ true → Going P o) → Going P (unless (if p then Some c else (if h then None else Some d)) o)
+for_hypervisor : (P : Thread → Type 0) (p h : Bool) (c d : Cause) (o : Outcome Thread) → (h ≡ true → Going P o) → Going P (unless (if p then Some c else (if h then None else Some d)) o)
 for_hypervisor P true h c d o going = tt
 for_hypervisor P false true c d o going = going refl
 for_hypervisor P false false c d o going = tt
@@ -64,7 +68,7 @@ read P t ways NotInProfile rt number word = tt
 read P t ways Assist rt number word = tt
 read P t ways (Allowed s) rt number word = ways.general rt (spr t s)
 
-tested_first : (P : Thread → Type 0) (b : Bool) (o stop : Outcome) → (b ≡ true → Going P o) → Going P stop → Going P (if b then o else stop)
+tested_first : (P : Thread → Type 0) (b : Bool) (o stop : Outcome Thread) → (b ≡ true → Going P o) → Going P stop → Going P (if b then o else stop)
 tested_first P true o stop going stopped = going refl
 tested_first P false o stop going stopped = stopped
 
@@ -73,7 +77,7 @@ wrote_one : (P : Thread → Type 0) (t : Thread) → Ways P t → (s : Spr) (r h
 wrote_one P t ways s true h e f value number word = tt
 wrote_one P t ways s false true e f value number word = tt
 wrote_one P t ways s false false e f value number word =
-    tested_first P (is_taken_by s value) (Goes (going_on (with_spr t s value))) (Stops names.ProfileBits value)
+    tested_first P (may_have s value) (Goes (advanced (with_spr t s value))) (Stops names.ProfileBits value)
     (ways.special s value (record { written = e; own = f })) tt
 
 wrote : (P : Thread → Type 0) (t : Thread) → Ways P t → (b : Bool) (found : Option Spr) (value number word : ℕ)
@@ -90,9 +94,9 @@ goes P t ways (insn.MfSpr rt n) word = read P t ways (access_of n t.msr false) r
 goes P t ways (insn.MtSpr rs n) word = wrote P t ways (is_privileged n && pr t.msr) (spr_of n) (gpr t rs) n word
 goes P t ways (insn.MfTb rt n) word =
     tested_first P (n == 268) (read_by (access_of n t.msr false) rt n word t) (Stops names.UnknownSpr n) (λ e. read P t ways (access_of n t.msr false) rt n word) tt
-goes P t ways (insn.MfMsr rt) word = allowed P (supervisor_only t.msr) (Goes (going_on (with_gpr t rt t.msr.0))) (ways.general rt t.msr.0)
+goes P t ways (insn.MfMsr rt) word = allowed P (supervisor_only t.msr) (Goes (advanced (with_gpr t rt t.msr.0))) (ways.general rt t.msr.0)
 goes P t ways (insn.MtMsr op rs l) word =
-    allowed P (supervisor_only t.msr) (enters (moved_msr op t.msr (gpr t rs) l) (following t.nia) t) (ways.moved op (gpr t rs) l)
+    allowed P (supervisor_only t.msr) (enters (moved_msr op t.msr (gpr t rs) l) (next_address t.nia) t) (ways.moved op (gpr t rs) l)
 goes P t ways (insn.Sync l) word = ways.onward
 goes P t ways insn.Eieio word = ways.onward
 goes P t ways insn.TlbSync word = allowed P (first (supervisor_only t.msr) (reaching_all word t)) (unsupported word) tt

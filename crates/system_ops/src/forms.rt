@@ -2,11 +2,10 @@
 
 ghost use Rattle.std.specs.Prelude.{◌≡◌, ◌<◌};
 ghost use Rattle.ppc_ops.specs.Forms.{IsForm};
-ghost use Rattle.system_ops.specs.Outcomes.{end_of, after_of};
+ghost use Rattle.form_outcomes.specs.Outcomes.{ComesTo};
 ghost use Rattle.system_ops.specs.System as forms;
-ghost use Rattle.system_ops.specs.System.{IsSystem, system_end, system_after};
+ghost use Rattle.system_ops.specs.System.{IsSystem};
 
-use crate::going::go_on;
 use crate::invalidations::{invalidation, message, tlbsync};
 use crate::moves::{mfmsr, mfspr, mftb, mtmsr, mtspr};
 use crate::returns::{hrfid, rfid};
@@ -23,10 +22,9 @@ pub struct SysOut {
 
 /// sync, eieio and isync: goes on, and changes nothing else (Power ISA, Book II, 4.6).
 fn barrier(thread: &mut Thread) -> StepEnd
-    ensures end { result ≡ end_of (forms.barrier thread.old) }
-    ensures thread { thread.new ≡ after_of (forms.barrier thread.old) thread.old }
+    ensures { ComesTo (forms.barrier thread.old) thread.old thread.new result }
 {
-    go_on(thread);
+    thread.advance();
     StepEnd::Ran
 }
 
@@ -35,8 +33,7 @@ fn barrier(thread: &mut Thread) -> StepEnd
 fn perform(thread: &mut Thread, insn: Insn, word: u32) -> StepEnd
     requires form { IsForm insn }
     requires system { IsSystem insn }
-    ensures end { result ≡ system_end insn word thread.old }
-    ensures thread { thread.new ≡ system_after insn word thread.old }
+    ensures { ComesTo (forms.outcome_of insn word thread.old) thread.old thread.new result }
 {
     match insn {
         Insn::MfSpr { rt, spr } => mfspr(thread, word, rt, spr),
@@ -65,8 +62,7 @@ pub fn system(insn: &Insn, word: u32, thread: &mut Thread, number: u8) -> SysOut
     requires form { IsForm insn.now }
     requires system { IsSystem insn.now }
     requires number { number < 4 }
-    ensures end { result.end ≡ system_end insn.now word thread.old }
-    ensures thread { thread.new ≡ system_after insn.now word thread.old }
+    ensures { ComesTo (forms.outcome_of insn.now word thread.old) thread.old thread.new result.end }
 {
     SysOut {
         end: perform(thread, *insn, word),

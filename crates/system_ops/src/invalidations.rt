@@ -4,26 +4,25 @@
 ghost use Rattle.std.specs.Prelude.{◌≡◌};
 ghost use Rattle.ppc_ops.specs.Table.{layout_of};
 ghost use Rattle.ppc_ops.specs.declared.insn.Layout.TheVariants as layouts;
-ghost use Rattle.system_ops.specs.Outcomes.{end_of, after_of};
+ghost use Rattle.form_outcomes.specs.Outcomes.{ComesTo};
 ghost use Rattle.system_ops.specs.System as forms;
 
-use crate::going::unsupported;
-use crate::lpcr::leaves_invalidations;
 use crate::refusals::{hypervisor_only, hypervisor_or, supervisor_only};
+use form_outcomes::unsupported;
 use journal_core::{Cause, StepEnd};
 use ppc_ops::Op;
+use ppc_spr::leaves_invalidations;
 use thread_regs::Thread;
 
 /// tlbsync: refused, or not executed.
 pub(crate) fn tlbsync(thread: &mut Thread, word: u32) -> StepEnd
-    ensures end { result ≡ end_of (forms.tlbsync word thread.old) }
-    ensures thread { thread.new ≡ after_of (forms.tlbsync word thread.old) thread.old }
+    ensures { ComesTo (forms.tlbsync word thread.old) thread.old thread.new result }
 {
     let msr = thread.msr();
     if let Some(cause) = supervisor_only(msr) {
         return StepEnd::Took(cause);
     }
-    match hypervisor_or(leaves_invalidations(thread), word, msr) {
+    match hypervisor_or(leaves_invalidations(thread.lpcr), word, msr) {
         Some(cause) => StepEnd::Took(cause),
         None => unsupported(word),
     }
@@ -48,7 +47,7 @@ fn guest_refused(thread: &Thread, op: Op, prs: bool, word: u32) -> Option<Cause>
 {
     let msr = thread.msr();
     if reaches_all(op) {
-        let refusal = hypervisor_or(leaves_invalidations(thread), word, msr);
+        let refusal = hypervisor_or(leaves_invalidations(thread.lpcr), word, msr);
         if refusal.is_some() {
             return refusal;
         }
@@ -59,8 +58,7 @@ fn guest_refused(thread: &Thread, op: Op, prs: bool, word: u32) -> Option<Cause>
 /// tlbie and tlbiel: refused, or not executed.
 pub(crate) fn invalidation(thread: &mut Thread, word: u32, op: Op, prs: bool) -> StepEnd
     requires { layout_of op ≡ layouts.Inval }
-    ensures end { result ≡ end_of (forms.invalidation op prs word thread.old) }
-    ensures thread { thread.new ≡ after_of (forms.invalidation op prs word thread.old) thread.old }
+    ensures { ComesTo (forms.invalidation op prs word thread.old) thread.old thread.new result }
 {
     if let Some(cause) = supervisor_only(thread.msr()) {
         return StepEnd::Took(cause);
@@ -73,8 +71,7 @@ pub(crate) fn invalidation(thread: &mut Thread, word: u32, op: Op, prs: bool) ->
 
 /// msgsnd and msgclr: refused, or not executed.
 pub(crate) fn message(thread: &mut Thread, word: u32) -> StepEnd
-    ensures end { result ≡ end_of (forms.message word thread.old) }
-    ensures thread { thread.new ≡ after_of (forms.message word thread.old) thread.old }
+    ensures { ComesTo (forms.message word thread.old) thread.old thread.new result }
 {
     match hypervisor_only(word, thread.msr()) {
         Some(cause) => StepEnd::Took(cause),

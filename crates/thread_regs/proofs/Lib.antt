@@ -1,3 +1,4 @@
 pub mod ResetLemmas
+pub mod SoundLemmas
 pub mod SpecialsLemmas
 pub mod RegisterLaws

@@ -1,4 +1,5 @@
 pub mod Registers
 pub mod Lending
+pub mod Soundness
 pub mod Specials
 pub mod Laws

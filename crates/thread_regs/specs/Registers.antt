@@ -1,5 +1,6 @@
 -- The registers of hardware threads, and their reset state.
-use Rattle.std.specs.Prelude.{ℕ, false, zero, suc, ◌+◌, ◌-◌, ◌%◌, List, [], ◌∷◌, slice_index, slice_index_or, slice_set, replicate}
+use Rattle.std.specs.Prelude.{ℕ, false, zero, suc, ◌+◌, List, [], ◌∷◌, slice_index, slice_index_or, slice_set, replicate}
+use Rattle.ppc_bits.specs.Addresses.{next_address, aligned}
 use Rattle.ppc_spr.specs.declared.msr.Msr.{Msr}
 use Rattle.ppc_spr.specs.Profile.{msr_of}
 use Rattle.thread_regs.specs.declared.registers.Thread.{Thread}
@@ -14,7 +15,7 @@ reset number entry = record {
   ctr = 0;
   tar = 0;
   msr = msr_of 0x9000_0000_0000_1001;
-  nia = entry - entry % 4;
+  nia = aligned entry;
   tb = 0;
   dec = 0;
   hdec = 0;
@@ -63,6 +64,10 @@ with_msr t value = record t { msr = value }
 -- the next address set, all else as it was
 abbrev pub with_nia : Thread → ℕ → Thread
 with_nia t value = record t { nia = value }
+
+-- gone on to the next instruction, all else as it was
+abbrev pub advanced : Thread → Thread
+advanced t = with_nia t (next_address t.nia)
 
 -- so many threads in their reset state, numbered from a number on
 unfoldable pub reset_from : ℕ → ℕ → ℕ → List Thread

@@ -1,8 +1,9 @@
 //! The registers of one hardware thread.
 
 ghost use Rattle.std.specs.Prelude.{◌≡◌, ◌<◌};
-ghost use Rattle.thread_regs.specs.Registers.{reset, gpr, with_gpr, with_cr, with_msr, with_nia};
+ghost use Rattle.thread_regs.specs.Registers.{reset, gpr, with_gpr, with_cr, with_msr, with_nia, advanced};
 
+use ppc_bits::{aligned, next_address};
 use ppc_ops::Xer;
 use ppc_spr::Msr;
 
@@ -108,7 +109,7 @@ impl Thread {
             ctr: 0,
             tar: 0,
             msr: Msr(0x9000_0000_0000_1001),
-            nia: entry - entry % 4,
+            nia: aligned(entry),
             tb: 0,
             dec: 0,
             hdec: 0,
@@ -195,5 +196,12 @@ impl Thread {
         ensures { self.new ≡ with_nia self.old value }
     {
         self.nia = value;
+    }
+
+    /// Goes on to the next instruction.
+    pub fn advance(&mut self)
+        ensures { self.new ≡ advanced self.old }
+    {
+        self.nia = next_address(self.nia);
     }
 }

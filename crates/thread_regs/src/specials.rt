@@ -1,18 +1,12 @@
 //! The special purpose registers of one hardware thread.
 
-ghost use Rattle.std.specs.Prelude.{◌≡◌, ◌%◌, ◌^◌};
+ghost use Rattle.std.specs.Prelude.{◌≡◌};
 ghost use Rattle.thread_regs.specs.Specials as specials;
 
 use crate::registers::Thread;
+use ppc_bits::low_word;
 use ppc_ops::Xer;
 use ppc_spr::Spr;
-
-/// The low 32 bits.
-fn low_word(value: u64) -> u32
-    ensures { result ≡ value % 2 ^ 32 }
-{
-    (value % (1 << 32)) as u32
-}
 
 impl Thread {
     /// The value of a special purpose register, with zeros above its width (Power ISA, Book III, 4.4.4).

@@ -3,7 +3,7 @@ use Rattle.std.proofs.lemmas.Nat.{or_lt}
 use Rattle.std.proofs.lemmas.Nat.Bits.{bit_at_or}
 use Rattle.ppc_spr.proofs.Bitwise.{word_is}
 use Rattle.ppc_bits.specs.Bits.{bit}
-use Rattle.ppc_spr.specs.MsrBits.{either}
+use Rattle.ppc_bits.specs.Bits.{either}
 use Rattle.interrupts.proofs.delivery.saved_state.Goals as goal
 
 pub returns : goal.returns

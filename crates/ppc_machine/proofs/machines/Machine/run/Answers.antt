@@ -1,10 +1,10 @@
 use Rattle.std.proofs.Common.{◌≡◌, length, Some, None, refl, sym, ap, ◌∙◌, arith, []}
-use Rattle.journal_core.specs.Rows.{Shown}
+use Rattle.journal_core.specs.Rows.{JournalView}
 use Rattle.journal_core.specs.Steps.{IsDated}
 use Rattle.journal_core.specs.Runs.{state_after}
 use Rattle.journal_core.specs.Ends.{ended_of}
 use Rattle.sched_text.specs.Plan.{turn}
-use Rattle.ppc_machine.proofs.HeldLemmas.{length-step}
+use Rattle.ppc_machine.proofs.ViewLemmas.{length-step}
 use Rattle.ppc_machine.proofs.RunLemmas.{GoesOn, GoesOn-none, Goes-none, Goes-step, Grows-step, length-rows}
 use Rattle.ppc_machine.proofs.machines.Machine.run.Goals as goal
 
@@ -44,7 +44,7 @@ loop-thread-preserved c =
     rw (← c.self.view_is) (rw (← c.counts.ensures.steps) (sym c.turn-next.ensures.turn ∙ c.in-Ok.ensures.goes.1)) in
     let none : ended_of c.args.n (turn c.args.schedule.now (length old.journal.rows.steps)) old.journal.reserved old.journal.rows ≡ None =
     rw here (rw (← c.self.view_is) (rw (← c.in-Ok.ensures.goes.1) c.in-Ok.ensures.goes.0)) in
-    let same : old.journal.reserved ≡ first.journal.reserved = ap (λ (j : Shown). j.reserved) c.loop-thread.invariant.grows.rows in
+    let same : old.journal.reserved ≡ first.journal.reserved = ap (λ (j : JournalView). j.reserved) c.loop-thread.invariant.grows.rows in
     let none' : ended_of c.args.n (turn c.args.schedule.now (length old.journal.rows.steps)) first.journal.reserved old.journal.rows ≡ None =
     rw (← same) none in
     record {

@@ -1,6 +1,6 @@
 use Rattle.std.proofs.Common.{◌≡◌, ◌-◌, length}
 use Rattle.journal_core.specs.Ends.{Grows}
-use Rattle.ppc_machine.specs.Held.{start_of}
+use Rattle.ppc_machine.specs.MachineView.{start_of}
 use Rattle.ppc_machine.proofs.RunLemmas.{Goes}
 use Rattle.ppc_machine.proofs.machines.Machine.run.Given as goal
 

@@ -1,6 +1,6 @@
 use Rattle.std.proofs.Common.{◌∙◌, sym, refl}
 use Rattle.ppc_machine.specs.Inside.{held_of}
-use Rattle.ppc_machine.proofs.HeldLemmas.{IsKept-step, start_of-step}
+use Rattle.ppc_machine.proofs.ViewLemmas.{IsKept-step, start_of-step}
 use Rattle.ppc_machine.proofs.machines.Machine.step.Goals as goal
 
 pub invariant_of-self : goal.invariant_of-self
