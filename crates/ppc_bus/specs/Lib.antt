@@ -1,0 +1,13 @@
+pub mod Answers
+pub mod Chains
+pub mod Devices
+pub mod Examples
+pub mod Faults
+pub mod Holding
+pub mod Laws
+pub mod Meeting
+pub mod Plugging
+pub mod Remaining
+pub mod SlotRows
+pub mod Slots
+pub mod Windows
