@@ -8,16 +8,16 @@ folder=$(mktemp -d)
 trap 'rm -rf "$folder"' EXIT
 
 mkdir -p "$folder/crates/decode_bench/src"
-cp -r "$top"/crates/{ppc_bits,ppc_ops,ppc_words} "$folder/crates"
+cp -r "$top"/crates/{ppc_bits,ppc_ops,word_decoder} "$folder/crates"
 cp "$top/HANDLES" "$folder"
-grep -E '^(ppc_bits|ppc_ops|ppc_words):' "$top/crates.txt" >"$folder/crates.txt"
-echo 'decode_bench: ppc_ops ppc_words' >>"$folder/crates.txt"
+grep -E '^(ppc_bits|ppc_ops|word_decoder):' "$top/crates.txt" >"$folder/crates.txt"
+echo 'decode_bench: ppc_ops word_decoder' >>"$folder/crates.txt"
 
 cat >"$folder/crates/decode_bench/src/main.rt" <<'PROGRAM'
 //! Times the decoder over words of all rows of the instruction table.
 #![tactic(auto)]
 
-use ppc_words::{Decoded, decode};
+use word_decoder::{Decoded, decode};
 use ppc_ops::{row, row_count};
 use std::io;
 use std::time::Instant;

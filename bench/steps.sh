@@ -1,5 +1,5 @@
 #!/usr/bin/env bash
-# Times 1,048,576 steps of loops, each five times, with the program that `./radix` builds: two instructions, then eight
+# Times 1,048,576 steps of loops, each five times, with the built program, as `./radix` runs it: two instructions, then eight
 # sums, products and a quotient, then eight logic operations, shifts, rotations and a count, then a system call with its return
 # and a branch. Prints for each the best wall time of a whole call, opening and report included, the steps per second, and the most
 # memory it held.
@@ -8,36 +8,15 @@ set -eu
 top=$(cd "$(dirname "${BASH_SOURCE[0]}")/.." && pwd)
 program=$top/crates/radix/out/radix
 steps=1048576
+export GLIBC_TUNABLES=${GLIBC_TUNABLES-glibc.malloc.hugetlb=1}
 folder=$(mktemp -d)
 trap 'rm -rf "$folder"' EXIT
-
-# Writes numbers with their least significant byte first: so many bytes, then the number.
-put() {
-    local size=$1 value=$2 i
-    for ((i = 0; i < size; i++)); do
-        printf "\\x$(printf %02x $(((value >> (8 * i)) & 255)))"
-    done
-}
-
-# An image with this entry, and with these words at this address; flags, addresses and sizes as in examples/first.
-image() {
-    local entry=$1 at=$2 word
-    shift 2
-    local size=$((4 * $#))
-    printf '\x7fELF\x02\x01\x01' && put 9 0
-    put 2 2 && put 2 21 && put 4 1 && put 8 "$entry" && put 8 64 && put 8 0
-    put 4 2 && put 2 64 && put 2 56 && put 2 1 && put 6 0
-    put 4 1 && put 4 7 && put 8 120 && put 8 "$at" && put 8 "$at" && put 8 $size && put 8 $size && put 8 1
-    for word in "$@"; do
-        put 4 "$word"
-    done
-}
 
 # Runs a loop with this entry and address of these words, and prints its times.
 time_loop() {
     local name=$1 best= before after spent
     shift
-    image "$@" >"$folder/loop.elf"
+    "$top/tools/make_image.sh" "$@" >"$folder/loop.elf"
     for _ in 1 2 3 4 5; do
         before=$(date +%s%N)
         "$program" run "$folder/loop.elf" "$folder/loop.sched" $steps >"$folder/report"
@@ -54,7 +33,10 @@ time_loop() {
     echo "$name: $steps steps, best of five: $((best / 1000)) us, $((steps * 1000000000 / best)) steps/s"
 }
 
-"$top/radix" --version
+if [ ! -x "$program" ]; then
+    "$top/tools/build.sh"
+fi
+"$program" --version
 printf 'threads 1\n0\nrepeat\n' >"$folder/loop.sched"
 
 # addi r3,r3,1; b .-4

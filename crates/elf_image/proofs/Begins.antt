@@ -1,4 +1,4 @@
--- Bytes that begin with two parts, one behind the other.
+-- Bytes that begin with two parts, one after the other.
 use Rattle.std.proofs.Common.{◌≡◌, ℕ, ◌-◌, take, arith, List, ◌++◌, length, drop, Bool, true, eqb, sym, ap, ◌∙◌, append_assoc}
 use Rattle.std.specs.List.{starts_with}
 use Rattle.std.proofs.lemmas.List.{drop_at, drop-drop, length-drop, take_all}

@@ -19,7 +19,7 @@ pub length-front_bytes : (front : Front) → length (front_bytes front) ≡ 120
 length-front_bytes front =
     omega (arith, length-append (header front.entry 1) (program_header 120 front.at front.filesz front.memsz), length-header front.entry 1, length-program_header 120 front.at front.filesz front.memsz)
 
--- what stands behind the headers
+-- what follows the headers
 pub behind : (front : Front) (bytes rest : List ℕ) → bytes ≡ front_bytes front ++ rest → drop 120 bytes ≡ rest
 behind front bytes rest is = ap (drop 120) is ∙ drop_at (front_bytes front) rest 120 (length-front_bytes front)
 

@@ -22,7 +22,7 @@ written-one image s one =
     let headers = append-nil (program_header 120 s.at (length s.bytes) s.size) in
     rw (one, headers, append-nil s.bytes) refl
 
--- an image's file has its headers, and its bytes behind them
+-- an image's file has its headers, and its bytes after them
 pub image_front : (bytes : List ℕ) (image : Image) (is : IsImage bytes image) → IsFront bytes (front_of image.entry is.segment)
 image_front bytes image is =
     let s = is.segment in
@@ -36,7 +36,7 @@ image_front bytes image is =
       entry_fits = is.entry_fits;
     }
 
--- the bytes of an image's segment stand behind the headers
+-- the bytes of an image's segment follow the headers
 pub image_bytes : (bytes : List ℕ) (image : Image) (is : IsImage bytes image) → drop 120 bytes ≡ is.segment.bytes
 image_bytes bytes image is = behind (front_of image.entry is.segment) bytes is.segment.bytes (is.is_written ∙ written-one image is.segment is.one)
 

@@ -5,7 +5,7 @@ use Rattle.elf_image.specs.declared.front.Front.{Front}
 use Rattle.elf_image.specs.IsImage.{memory_end}
 use Rattle.elf_image.specs.Header.{header, program_header}
 
--- the two headers, behind which the bytes of the segment begin
+-- the two headers, after which the bytes of the segment begin
 abbrev pub front_bytes : Front → List ℕ
 front_bytes front = header front.entry 1 ++ program_header 120 front.at front.filesz front.memsz
 
@@ -13,7 +13,7 @@ front_bytes front = header front.entry 1 ++ program_header 120 front.at front.fi
 abbrev pub Begins : List ℕ → Front → Type 0
 Begins bytes front = bytes ≡ front_bytes front ++ drop 120 bytes
 
--- A file of so many bytes ends with those of the segment, and the segment lies within the memory.
+-- A file of this many bytes ends with those of the segment, and the segment lies within the memory.
 pub record Fits (len : ℕ) (front : Front) : Type 0 where
   pub goes_on : len ≡ 120 + front.filesz
   pub holds_bytes : front.filesz ≤ front.memsz

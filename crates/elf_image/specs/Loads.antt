@@ -1,4 +1,4 @@
--- The image of headers and of the bytes behind them.
+-- The image of headers and of the bytes after them.
 use Rattle.std.specs.Prelude.{◌≡◌, ℕ, List, [], ◌∷◌}
 use Rattle.elf_image.specs.declared.front.Front.{Front}
 use Rattle.elf_image.specs.declared.segment.Segment.{Segment}

@@ -13,7 +13,7 @@ use crate::segment::Segment;
 use crate::segments::Segments;
 use std::alloc::{AllocError, Global};
 
-/// The image of the headers and of the bytes behind them.
+/// The image of the headers and of the bytes after them.
 fn load(alloc: Global, front: Front, rest: &[u8]) -> Result<Image, AllocError>
     requires holds_bytes { length rest.now ≤ front.memsz }
     requires ends { front.at + front.memsz ≤ 2 ^ 64 }

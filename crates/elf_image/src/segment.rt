@@ -4,7 +4,7 @@ ghost use Rattle.std.specs.Prelude.{◌≡◌, ◌+◌, ◌^◌, ◌≤◌, leng
 
 use crate::bytes::Bytes;
 
-/// A range of memory that is loaded: first its bytes, and behind them zeros up to its size.
+/// A range of memory that is loaded: first its bytes, and after them zeros up to its size.
 #[derive(Debug, Drop)]
 pub struct Segment {
     /// The address of its first byte.

@@ -1,10 +1,10 @@
--- A text that is put part by part: what is known after so many parts, and where a part was cut short.
+-- A text that is put part by part: what is known after each number of parts, and where a part was cut short.
 use Rattle.std.proofs.Common.{◌≡◌, ℕ, zero, suc, ◌+◌, ◌≤◌, List, [], ◌∷◌, ◌++◌, length, take, drop, Option, Some, Result, Ok, Err, refl, ap, sym, ◌∙◌, subst, arith, append_assoc}
 use Rattle.std.specs.Prelude.{slice_get}
 use Rattle.std.proofs.lemmas.List.{append-nil, take_all}
 use Rattle.outer_io.specs.declared.sink.SinkFault.{SinkFault}
-use Rattle.outer_io.specs.Outside.{Rose, added, AddsFront, Puts}
-use Rattle.outer_io.specs.Printing.{puts_then, puts_stop, puts_nothing}
+use Rattle.outer_io.specs.Outside.{CountRose, added, AddsFront, Puts}
+use Rattle.outer_io.proofs.Printing.{puts_then, puts_stop, puts_nothing}
 use Rattle.line_text.specs.Text.{text_of}
 
 pub text_of-take : (parts : List (List ℕ)) (k : ℕ) (part : List ℕ) → slice_get parts k ≡ Some part → text_of (take (suc k) parts) ≡ text_of (take k parts) ++ part
@@ -19,7 +19,7 @@ text_of-parts parts zero = refl
 text_of-parts [] (suc k) = refl
 text_of-parts (p ∷ ps) (suc k) = ap (λ (t : List ℕ). p ++ t) (text_of-parts ps k) ∙ sym (append_assoc p (text_of (take k ps)) (text_of (drop k ps)))
 
--- nothing is put yet
+-- nothing was put
 pub no_parts : (old : Option (List ℕ)) (f : ℕ) → (old ≡ added old (text_of [])) × (f ≤ f)
 unfolding text_of
 no_parts old f = puts_nothing old f
@@ -31,7 +31,7 @@ puts_part parts k part old mid new f g h is before now =
     rw (n, text_of-take parts k part is) (puts_then {X = Unit {0}} old mid new f g h (Ok tt) (text_of (take k parts)) part before now)
 
 -- a part was cut short where those before it were put
-pub stops_at_part : (parts : List (List ℕ)) (k : ℕ) (part : List ℕ) (old mid new : Option (List ℕ)) (f g h : ℕ) → slice_get parts k ≡ Some part → (mid ≡ added old (text_of (take k parts))) × (f ≤ g) → AddsFront mid new part × Rose g h × (g ≤ h) → AddsFront old new (text_of parts) × Rose f h × (f ≤ h)
+pub stops_at_part : (parts : List (List ℕ)) (k : ℕ) (part : List ℕ) (old mid new : Option (List ℕ)) (f g h : ℕ) → slice_get parts k ≡ Some part → (mid ≡ added old (text_of (take k parts))) × (f ≤ g) → AddsFront mid new part × CountRose g h × (g ≤ h) → AddsFront old new (text_of parts) × CountRose f h × (f ≤ h)
 stops_at_part parts k part old mid new f g h is before now =
     let fault : SinkFault = record {} in
     let so_far = puts_then {X = Unit {0}} old mid new f g h (Err fault) (text_of (take k parts)) part before now in

@@ -5,7 +5,7 @@ use Rattle.std.specs.Prelude.{ℕ, zero, suc, ◌+◌, ◌-◌, ◌/◌, ◌%◌
 abbrev pub glyph : ℕ → ℕ
 glyph d = if nat_lt d 10 then 48 + d else 97 + (d - 10)
 
--- so many digits of a number in base 16, the lowest ones, the highest of them first
+-- this many digits of a number in base 16, the lowest ones, the highest of them first
 unfoldable pub hex : ℕ → ℕ → List ℕ
 hex zero value = []
 hex (suc width) value = hex width (value / 16) ++ glyph (value % 16) ∷ []

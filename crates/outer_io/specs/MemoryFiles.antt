@@ -20,7 +20,7 @@ pub record MemoryFiles : Type 0 where
 abbrev pub no_files : MemoryFiles
 no_files = record { files = []; planned = []; calls = 0; faults = 0; last = None }
 
--- one file more, behind the others
+-- one file more, after the others
 abbrev pub with_file : MemoryFiles → List ℕ → List ℕ → MemoryFiles
 with_file m name bytes = record m { files = m.files ++ record { name = name; bytes = bytes } ∷ [] }
 

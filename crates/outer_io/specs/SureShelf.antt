@@ -11,6 +11,6 @@ pub record SureShelf : Type 0 where
 abbrev pub bare_shelf : SureShelf
 bare_shelf = record { files = []; last = None }
 
--- one file more, behind the others
+-- one file more, after the others
 abbrev pub with_sure_file : SureShelf → List ℕ → List ℕ → SureShelf
 with_sure_file m name bytes = record m { files = m.files ++ record { name = name; bytes = bytes } ∷ [] }

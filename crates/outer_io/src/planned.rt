@@ -3,7 +3,7 @@
 ghost use Rattle.std.specs.Prelude.{◌≡◌};
 ghost use Rattle.outer_io.specs.MemorySink.{plan_for};
 
-/// A put that is to fail once so many bytes of its piece are added.
+/// A put that is to fail once this many bytes of its piece are added.
 #[derive(Clone, Copy, Debug)]
 pub struct PlannedFault {
     /// The number of the put, counted from 1.

@@ -1,36 +1,36 @@
 -- Output that was cut short at its end.
 use Rattle.std.proofs.Common.{◌≡◌, ◌⊎◌, inl, inr, ℕ, List, [], Option, None, refl, subst}
-use Rattle.outer_io.specs.Outside.{AddsFront, Asked, Rose}
+use Rattle.outer_io.specs.Outside.{AddsFront, Asked, CountRose}
 use Rattle.journal_core.specs.declared.rows.Ended.{Ended}
 use Rattle.journal_core.specs.declared.rows.Ended.TheVariants as ends
-use Rattle.ppc_machine.specs.Held.{Held}
+use Rattle.ppc_machine.specs.MachineView.{MachineView}
 use Rattle.radix_top.specs.declared.status.Refusal.{Refusal}
 use Rattle.radix_top.specs.declared.status.Refusal.TheVariants as refusals
 use Rattle.radix_top.specs.declared.status.Status.{Status}
 use Rattle.radix_top.specs.declared.status.Status.TheVariants as statuses
 use Rattle.radix_top.specs.Words.{Text}
-use Rattle.radix_top.specs.Inputs.{Met, met}
+use Rattle.radix_top.specs.Inputs.{FilesSeen, met}
 use Rattle.radix.specs.Answering.{Answers}
 use Rattle.radix_top.specs.Calls.{Says, Ran, WasRefused, CutLine, CutReport}
 
--- where nothing is told, no byte of a text is a front of it
+-- where no bytes are known, no byte of a text is a front of it
 no_front : (text : List ℕ) → AddsFront None None text
 no_front text = record { front = []; rest = text; parts = refl; after = refl }
 
 -- a report whose last bytes were not written
-cut_report : (m : Met) (words : List Text) (machine : Option Held) (end : Ended) → Ran m words machine None None end
+cut_report : (m : FilesSeen) (words : List Text) (machine : Option MachineView) (end : Ended) → Ran m words machine None None end
     → CutLine m words machine None None ⊎ CutReport m words machine None None
 cut_report m words machine end ran =
     inr (record { end = end; opened = ran.opened; there = ran.there; run = ran.run; front = no_front _ })
 
 -- a line whose last bytes were not written
-cut_line : (m : Met) (words : List Text) (machine : Option Held) (r : Refusal) → WasRefused m words machine None None r
+cut_line : (m : FilesSeen) (words : List Text) (machine : Option MachineView) (r : Refusal) → WasRefused m words machine None None r
     → CutLine m words machine None None ⊎ CutReport m words machine None None
 cut_line m words machine r was = inl (record { refusal = r; none = was.none; cause = was.cause; front = no_front _ })
 
 -- whatever was printed, its end was not written
-pub cut_short : (m : Met) (words : List Text) (machine : Option Held) (f f' g g' : ℕ) (s : Status) → Says m words machine f f' None None s
-    → Rose g g' → Says m words machine g g' None None statuses.WriteFault
+pub cut_short : (m : FilesSeen) (words : List Text) (machine : Option MachineView) (f f' g g' : ℕ) (s : Status) → Says m words machine f f' None None s
+    → CountRose g g' → Says m words machine g g' None None statuses.WriteFault
 cut_short m words machine f f' g g' (statuses.Done ends.AllRun) says rose = (rose, cut_report m words machine _ says)
 cut_short m words machine f f' g g' (statuses.Done ends.ScheduleEnd) says rose = (rose, cut_report m words machine _ says)
 cut_short m words machine f f' g g' (statuses.Done (ends.Stopped name value)) says rose = absurd says
@@ -46,7 +46,7 @@ cut_short m words machine f f' g g' (statuses.BadSchedule place) says rose = (ro
 cut_short m words machine f f' g g' statuses.Memory says rose = (rose, cut_line m words machine refusals.Memory says)
 
 -- a call at files that had no fault before it
-pub answers_after : (words : List Text) (s : Status) (before after : ℕ) (last : Option Asked) (machine : Option Held) (f f' : ℕ) → before ≡ 0
+pub answers_after : (words : List Text) (s : Status) (before after : ℕ) (last : Option Asked) (machine : Option MachineView) (f f' : ℕ) → before ≡ 0
     → Says (met (λ _. None) before after last) words machine f f' None None s → Answers words s
 answers_after words s before after last machine f f' none says = record {
   file_faults = after;
@@ -58,7 +58,7 @@ answers_after words s before after last machine f f' none says = record {
 }
 
 -- the same, where the end of what it printed was not written
-pub answers_cut : (words : List Text) (s : Status) (before after : ℕ) (last : Option Asked) (machine : Option Held) (f f' g g' : ℕ) → before ≡ 0
-    → Says (met (λ _. None) before after last) words machine f f' None None s → Rose g g' → Answers words statuses.WriteFault
+pub answers_cut : (words : List Text) (s : Status) (before after : ℕ) (last : Option Asked) (machine : Option MachineView) (f f' g g' : ℕ) → before ≡ 0
+    → Says (met (λ _. None) before after last) words machine f f' None None s → CountRose g g' → Answers words statuses.WriteFault
 answers_cut words s before after last machine f f' g g' none says rose =
     answers_after words statuses.WriteFault before after last machine g g' none (cut_short _ words machine f f' g g' s says rose)

@@ -3,7 +3,7 @@ use Rattle.std.proofs.Common.{◌≡◌, ◌+◌, ◌-◌, ◌≤◌, ◌++◌, 
 use Rattle.std.specs.Io.KnownBytes.{Consumes, Keeps}
 use Rattle.std.proofs.KnownBytes.{Consumes-trans, Consumes-kept}
 
--- what stands behind `old` in `new` was consumed, and leaves so much room
+-- what follows `old` in `new` was consumed, and leaves this much room
 abbrev pub Gathered : Option (List ℕ) → Option (List ℕ) → List ℕ → List ℕ → ℕ → ℕ → Type 0
 Gathered a b old new max room = (rest : List ℕ) × (new ≡ old ++ rest) × (length rest + room ≡ max) × Consumes a b rest
 

@@ -6,7 +6,7 @@ use Rattle.std.proofs.Math.Seq.{take-append-add}
 use Rattle.std.specs.Io.KnownBytes.{Appends, Keeps}
 use Rattle.std.proofs.KnownBytes.{Appends-trans, Appends-kept}
 use Rattle.outer_io.specs.Counts.{one_fault_more}
-use Rattle.outer_io.specs.Outside.{AddsFront, Puts, Rose}
+use Rattle.outer_io.specs.Outside.{AddsFront, Puts, CountRose}
 use Rattle.outer_io.specs.declared.sink.SinkFault.{SinkFault}
 use Rattle.radix.specs.Outgoing.{AppendsFront, CountsFault}
 
@@ -25,7 +25,7 @@ pub writes_again : (a b c : Option (List ℕ)) (xs : List ℕ) (done to : ℕ) �
 writes_again a b c xs done to within is before kept =
     (omega arith, subst (λ k. Appends a c (take k xs)) (sym is) (Appends-kept _ _ _ _ before kept))
 
--- a front of a piece behind all of another is a front of both
+-- a front of a piece after all of another is a front of both
 pub front_behind : (a b c : Option (List ℕ)) (xs ys : List ℕ) → Appends a b xs → AppendsFront b c ys → AppendsFront a c (xs ++ ys)
 front_behind a b c xs ys before more = record {
   count = length xs + more.count;
@@ -34,10 +34,10 @@ front_behind a b c xs ys before more = record {
 }
 
 -- a fault that was counted shows
-pub rose : (before after : ℕ) → after ≡ one_fault_more before → Rose before after
+pub rose : (before after : ℕ) → after ≡ one_fault_more before → CountRose before after
 rose before after is = grind (arith, is)
 
--- a front of a piece behind what waited
+-- a front of a piece after what waited
 pub err_behind : {X E : Type 0} (r : Result X E) (a a' b b' c : Option (List ℕ)) (xs xs' ys : List ℕ) → a' ≡ a → xs' ≡ xs → b' ≡ b
     → Appends a' b xs' → OnErr r (AppendsFront b' c ys) → OnErr r (AppendsFront a c (xs ++ ys))
 err_behind (Ok _) a a' b b' c xs xs' ys at_a at_xs at_b before more = tt
@@ -46,7 +46,7 @@ err_behind (Err _) a a' b b' c xs xs' ys at_a at_xs at_b before more =
 
 -- what an untold sink says of a fault, by its count alone
 pub cut_untold : (before after : ℕ) (bytes : List ℕ) → after ≡ one_fault_more before → before ≤ after
-    → AddsFront None None bytes × Rose before after × (before ≤ after)
+    → AddsFront None None bytes × CountRose before after × (before ≤ after)
 cut_untold before after bytes is counts =
     (record { front = []; rest = bytes; parts = refl; after = refl }, rose before after is, counts)
 

@@ -1,11 +1,12 @@
--- What the program answers. Its files and its output tell nothing of their bytes, so this speaks of the words, the
+-- What the program answers. No contract knows the bytes of its files and its output, so this speaks of the words, the
 -- faults, the machine and its run.
-use Rattle.std.specs.Prelude.{◌≡◌, ◌⊎◌, ℕ, List, Option, None, Some}
+use Rattle.std.specs.Prelude.{◌≡◌, ◌⊎◌, ℕ, List, length, Option, None, Some, Result, Ok, Err}
 use Rattle.outer_io.specs.Outside.{Asked}
-use Rattle.ppc_machine.specs.Held.{Held}
+use Rattle.ppc_machine.specs.MachineView.{MachineView}
 use Rattle.radix_top.specs.declared.status.Status.{Status}
 use Rattle.radix_top.specs.declared.status.Status.TheVariants.{WriteFault}
-use Rattle.radix_top.specs.Words.{Text}
+use Rattle.radix_top.specs.declared.command.Command.{Command}
+use Rattle.radix_top.specs.Words.{Text, command_of}
 use Rattle.radix_top.specs.Inputs.{met}
 use Rattle.radix_top.specs.Calls.{Says}
 use Rattle.radix.specs.declared.information.Information.{Information}
@@ -15,7 +16,7 @@ use Rattle.radix.specs.Exits.{exit_of}
 pub record Answers (words : List Text) (status : Status) : Type 0 where
   pub file_faults : ℕ
   pub last : Option Asked
-  pub machine : Option Held
+  pub machine : Option MachineView
   pub faults_before : ℕ
   pub faults_after : ℕ
   pub says : Says (met (λ _. None) 0 file_faults last) words machine faults_before faults_after None None status
@@ -24,3 +25,12 @@ pub record Answers (words : List Text) (status : Status) : Type 0 where
 abbrev pub Exits : Option Information → List Text → ℕ → Type 0
 Exits None words code = (status : Status) × Answers words status × (code ≡ exit_of status)
 Exits (Some _) words code = (code ≡ 0) ⊎ (code ≡ exit_of WriteFault)
+
+-- where a line of this many words goes wrong whose next word is not UTF-8 text: at an earlier word, or at that one
+abbrev pub wrong_by : ℕ → Result Command ℕ → ℕ
+wrong_by count (Ok command) = count
+wrong_by count (Err place) = place
+
+-- the first wrong word of a line whose words up to one that is not UTF-8 text are these
+abbrev pub first_wrong : List Text → ℕ
+first_wrong words = wrong_by (length words) (command_of words)

@@ -21,7 +21,7 @@ pub record AppendsFront (old new : Option (List ℕ)) (bytes : List ℕ) : Type 
   pub within : count ≤ length bytes
   pub front : Appends old new (take count bytes)
 
--- the faults before and after a call that ended so: a fault is counted
+-- the faults before and after a call with this result: a fault is counted
 abbrev pub CountsFault : {X E : Type 0} → ℕ → ℕ → Result X E → Type 0
 CountsFault before after (Ok _) = after ≡ before
 CountsFault before after (Err _) = (after ≡ one_fault_more before) × (before ≤ after)

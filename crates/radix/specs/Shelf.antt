@@ -9,7 +9,7 @@ pub record RealShelf : Type 0 where
   pub faults : ℕ
   pub last : Option Asked
 
--- the faults after a call that ended so: one more where the outside failed
+-- the faults after a call with this result: one more where the outside failed
 abbrev pub faults_after : {X : Type 0} → ℕ → Result X FileFault → ℕ
 faults_after count (Ok _) = count
 faults_after count (Err faults.Failed) = one_fault_more count

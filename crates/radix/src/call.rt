@@ -1,34 +1,38 @@
 //! One call of the program over real files and the standard output.
 
-ghost use Rattle.std.specs.Prelude.{◌≡◌, ◌≢◌, []};
+ghost use Rattle.std.specs.Prelude.{◌≡◌, ◌≢◌, ◌⊎◌, []};
+ghost use Rattle.radix_top.specs.declared.status.Refusal.TheVariants.{Memory, Usage};
 ghost use Rattle.radix_top.specs.declared.status.Status.TheVariants.{WriteFault};
-ghost use Rattle.radix.specs.Answering.{Answers, Exits};
+ghost use Rattle.radix_top.specs.Statuses.{refused_status};
+ghost use Rattle.radix.specs.Answering.{Answers, Exits, first_wrong};
+ghost use Rattle.radix.specs.Exits.{exit_of};
 ghost use Rattle.radix.specs.Informing.{information_of};
 
 use crate::exit::exit_code;
 use crate::information::{Information, information_asked, text_of};
-use crate::message::Message;
+use crate::last_step::last_step;
+use crate::message::{Message, Story};
 use crate::real_files::RealFiles;
 use crate::real_sink::RealSink;
+use crate::usage::WrongWord;
 use outer_io::{Sink, SinkFault};
-use radix_top::{Bench, Status, radix_call};
-use std::io::{ErrorKind, Write};
+use radix_top::{Bench, Refusal, Status, fault_line, radix_call, read_command, refused_status};
+use std::io::Write;
 use std::{io, rt};
 
-/// Prints what the program tells of itself.
-fn inform<W: Write + Drop>(
-    information: Information,
-    out: &mut RealSink<W>,
-) -> Result<(), SinkFault> {
-    out.put(text_of(information).as_bytes())?;
+/// Prints a text, and writes all of it.
+fn print_text<W: Write + Drop>(text: &[u8], out: &mut RealSink<W>) -> Result<(), SinkFault> {
+    out.put(text)?;
     out.finish()
 }
 
-/// Does what the words ask for, and writes all that is printed.
+/// Does what the words ask for, and writes all that is printed. What the messages tell beside the status goes into
+/// `story`.
 fn call<R: rt::Files + AllocGlobal, W: Write + Drop>(
     rt: &R,
     words: &[String],
     out: &mut RealSink<W>,
+    story: &mut Story,
 ) -> Status
     ensures answer { Answers words.now result }
     ensures written { result ≢ WriteFault → out.new.waiting ≡ [] }
@@ -36,6 +40,8 @@ fn call<R: rt::Files + AllocGlobal, W: Write + Drop>(
     let mut files = RealFiles::new(rt);
     let mut bench = Bench { machine: None };
     let status = radix_call(rt.alloc(), words, &mut files, out, &mut bench);
+    story.reason = files.reason();
+    story.last = last_step(&bench);
     match out.finish() {
         Ok(()) => status,
         Err(_) => Status::WriteFault,
@@ -43,41 +49,92 @@ fn call<R: rt::Files + AllocGlobal, W: Write + Drop>(
 }
 
 /// Says on standard error what was wrong. Where nobody reads the output, it says nothing.
-fn complain(rt: &impl Eprint, words: &[String], status: Status, is_pipe_closed: bool) {
-    let _ = if status == Status::WriteFault && !is_pipe_closed {
+fn complain(rt: &impl Eprint, message: Message, is_pipe_closed: bool) {
+    let _ = if message.status == Status::WriteFault && !is_pipe_closed {
         rt.eprintln("radix: the output could not be written")
     } else {
-        rt.eprint(Message { words, status })
+        rt.eprint(message)
     };
 }
 
-/// Runs the program with the words behind its name, and returns its exit status.
+/// Runs the program with the words after its name, and returns its exit status.
 pub fn run<R: rt::Files + Print + Eprint + AllocGlobal>(rt: &R, words: &[String]) -> u8
     ensures { Exits (information_of words.now) words.now result }
 {
     let mut out = RealSink::new(rt.alloc(), io::writer(rt));
-    let Some(information) = information_asked(words) else {
-        let status = call(rt, words, &mut out);
-        complain(rt, words, status, out.is_pipe_closed());
-        return exit_code(status);
+    let mut story = Story {
+        reason: None,
+        last: None,
     };
-    match inform(information, &mut out) {
-        Ok(()) => 0,
-        Err(SinkFault) => {
-            complain(rt, words, Status::WriteFault, out.is_pipe_closed());
-            exit_code(Status::WriteFault)
-        }
+    let status = match information_asked(words) {
+        None => call(rt, words, &mut out, &mut story),
+        Some(information) => match print_text(text_of(information).as_bytes(), &mut out) {
+            Ok(()) => return 0,
+            Err(SinkFault) => Status::WriteFault,
+        },
+    };
+    let message = Message {
+        words,
+        status,
+        story,
+    };
+    complain(rt, message, out.is_pipe_closed());
+    exit_code(status)
+}
+
+/// Prints the line of a refusal that comes before any call, and returns the status.
+fn refuse<W: Write + Drop>(refusal: Refusal, out: &mut RealSink<W>) -> Status
+    ensures { (result ≡ refused_status refusal) ⊎ (result ≡ WriteFault) }
+{
+    match print_text(fault_line(refusal).as_slice(), out) {
+        Ok(()) => refused_status(refusal),
+        Err(SinkFault) => Status::WriteFault,
     }
 }
 
-/// Says why the words could not be taken, and returns the exit status. They are no command where one is not
-/// UTF-8 text.
-pub fn refuse_words(rt: &(impl Print + Eprint), kind: ErrorKind) -> u8 {
-    if kind == ErrorKind::OutOfMemory {
-        let _ = rt.print("fault memory\n");
-        let _ = rt.eprintln("radix: out of memory");
-        return exit_code(Status::Memory);
+/// The number of the first wrong word of a line whose words up to one that is not UTF-8 text are these.
+fn first_wrong(words: &[String]) -> usize
+    ensures { result ≡ first_wrong words.now }
+{
+    match read_command(words) {
+        Err(place) => place,
+        Ok(_) => words.len(),
     }
-    let _ = rt.eprintln("radix: a word of the command line is not UTF-8 text");
-    exit_code(Status::Usage(0))
+}
+
+/// Refuses a line whose words up to one that is not UTF-8 text are these, and returns the exit status.
+pub fn refuse_cut_words(rt: &(impl Print + Eprint + AllocGlobal), words: &[String]) -> u8
+    ensures { (result ≡ exit_of (refused_status (Usage (first_wrong words.now)))) ⊎ (result ≡ exit_of WriteFault) }
+{
+    let mut out = RealSink::new(rt.alloc(), io::writer(rt));
+    let place = first_wrong(words);
+    let status = refuse(Refusal::Usage(place), &mut out);
+    if status != Status::WriteFault {
+        let _ = rt.eprint(WrongWord {
+            words,
+            place,
+            is_cut: true,
+        });
+    } else if !out.is_pipe_closed() {
+        let _ = rt.eprintln("radix: the output could not be written");
+    }
+    exit_code(status)
+}
+
+/// Refuses a line for whose words there was no memory, and returns the exit status.
+pub fn refuse_for_memory(rt: &(impl Print + Eprint + AllocGlobal)) -> u8
+    ensures { (result ≡ exit_of (refused_status Memory)) ⊎ (result ≡ exit_of WriteFault) }
+{
+    let mut out = RealSink::new(rt.alloc(), io::writer(rt));
+    let status = refuse(Refusal::Memory, &mut out);
+    let message = Message {
+        words: &[],
+        status,
+        story: Story {
+            reason: None,
+            last: None,
+        },
+    };
+    complain(rt, message, out.is_pipe_closed());
+    exit_code(status)
 }

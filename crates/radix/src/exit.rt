@@ -5,7 +5,7 @@ ghost use Rattle.radix.specs.Exits.{exit_of};
 
 use radix_top::Status;
 
-/// The exit status of a call that ended so.
+/// The exit status of a call with this status.
 pub fn exit_code(status: Status) -> u8
     ensures { result ≡ exit_of status }
 {

@@ -1,9 +1,9 @@
-//! What the program tells of itself.
+//! What the program says about itself.
 
 ghost use Rattle.std.specs.Prelude.{◌≡◌};
 ghost use Rattle.radix.specs.Informing.{information_of};
 
-/// What the program tells of itself.
+/// What the program says about itself.
 #[derive(Clone, Copy, Debug, PartialEq, Eq)]
 pub enum Information {
     /// How it is used.
@@ -38,26 +38,28 @@ pub fn text_of(information: Information) -> &'static str {
     }
 }
 
-/// How the program is used, in two lines.
-pub const USAGE: &str = "usage: radix run IMAGE SCHEDULE N\n       radix --help | --version\n";
-
-const HELP: &str = "\
+/// How the program is used.
+pub const HELP: &str = "\
 radix: runs a program of a 64-bit Power ISA 3.0B machine, and prints a report of the run.
 
 usage: radix run IMAGE SCHEDULE N
        radix --help | --version
 
   IMAGE      the file of the program: an ELF-64 executable of one segment, at most 64 MiB
-  SCHEDULE   the file that says which thread makes each step, at most 64 MiB
-  N          how many steps to make, 0 to 1048576
+  SCHEDULE   the file that says which thread makes each step: the three lines
+             'threads 1', '0' and 'repeat'
+  N          how many steps to make, 0 to 1048576 in decimal
 
   --help     print this text
   --version  print the version
 
+The machine has one thread and 16 MiB of RAM. docs/FORMATS.md describes the files and the
+report, docs/MACHINE.md the machine.
+
 exit status:
-   0  all steps made, or the schedule ended     6  the schedule is none
-   2  the command line is none                 11  the output could not be written
+   0  all steps were made                       6  not a schedule that this version reads
+   2  not a command of this version            11  the output could not be written
    3  a file could not be read                 12  out of memory
    4  a file is longer than 64 MiB             13  the machine stopped
-   5  the image is none                        14  the journal has no room for a step
+   5  not an image that this version reads     14  the journal has no room for a step
 ";

@@ -2,29 +2,25 @@
 #![tactic(auto)]
 
 mod call;
+mod command_line;
 mod exit;
 mod information;
+mod last_step;
 mod message;
+mod quoted;
 mod real_files;
 mod real_sink;
+mod usage;
 
-use call::{refuse_words, run};
+use call::{refuse_cut_words, refuse_for_memory, run};
+use command_line::read_command_line;
 use std::process::ExitCode;
-use std::{env, io};
-
-/// The words behind the program's name.
-fn words_of<R: env::Env + AllocGlobal>(rt: &R) -> io::Result<Vec<String>> {
-    let mut words = Vec::new(rt.alloc());
-    for word in env::args(rt)?.skip(1) {
-        words.push(word)?;
-    }
-    Ok(words)
-}
 
 fn main(rt: HostRuntime) -> ExitCode {
-    let code = match words_of(&rt) {
-        Ok(words) => run(&rt, &words),
-        Err(error) => refuse_words(&rt, error.kind()),
+    let code = match read_command_line(&rt) {
+        Ok(line) if line.is_cut => refuse_cut_words(&rt, &line.words),
+        Ok(line) => run(&rt, &line.words),
+        Err(_) => refuse_for_memory(&rt),
     };
     ExitCode::from(code)
 }

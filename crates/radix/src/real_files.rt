@@ -1,4 +1,4 @@
-//! Real files. They tell nothing of their bytes, and count each call in which the system failed.
+//! Real files. No contract knows their bytes; each call in which the system failed is counted.
 
 ghost use Rattle.std.specs.Prelude.{◌≡◌, ◌≤◌, ℕ, None, IfOk};
 ghost use Rattle.std.specs.Io.{StartsWith};
@@ -15,9 +15,14 @@ use std::{fs, rt};
 /// How many bytes the system is asked for at once.
 const PIECE: usize = 65_536;
 
-/// Reads to the end, or to one byte more than `max`, and puts what comes behind what is there. A read that a
-/// signal interrupted is made again.
-pub fn gather<R: Read>(reader: &mut R, max: usize, into: &mut Vec<u8>) -> Result<Answer, AllocError>
+/// Reads to the end, or to one byte more than `max`, and appends what comes. A read that a signal interrupted is
+/// made again. Where the system fails, `reason` says why.
+pub fn gather<R: Read>(
+    reader: &mut R,
+    max: usize,
+    into: &mut Vec<u8>,
+    reason: &mut Option<ErrorKind>,
+) -> Result<Answer, AllocError>
     ensures kept { StartsWith into.new.items into.old.items }
     ensures answer { IfOk result (Gathers (R.remaining reader.old) max into.old.items into.new.items) }
 {
@@ -35,7 +40,9 @@ pub fn gather<R: Read>(reader: &mut R, max: usize, into: &mut Vec<u8>) -> Result
                 room -= count;
             }
             Err(error) => {
-                if error.kind() != ErrorKind::Interrupted {
+                let kind = error.kind();
+                if kind != ErrorKind::Interrupted {
+                    *reason = Some(kind);
                     return Ok(Answer::Failed);
                 }
             }
@@ -50,6 +57,7 @@ pub struct RealFiles<'a, R> {
     rt: &'a R,
     faults: u64,
     last: Option<LastCall>,
+    reason: Option<ErrorKind>,
 }
 
 impl<'a, R> Model for RealFiles<'a, R> {
@@ -62,7 +70,7 @@ impl<'a, R> Model for RealFiles<'a, R> {
 }
 
 impl<'a, R: rt::Files> RealFiles<'a, R> {
-    /// The files that the runtime reaches. None was asked for yet.
+    /// The files that the runtime reaches. None was asked for.
     pub fn new(rt: &'a R) -> Self
         ensures { result ≡ record { faults = 0; last = None } }
     {
@@ -70,6 +78,7 @@ impl<'a, R: rt::Files> RealFiles<'a, R> {
             rt,
             faults: 0,
             last: None,
+            reason: None,
         }
     }
 
@@ -80,14 +89,28 @@ impl<'a, R: rt::Files> RealFiles<'a, R> {
         self.faults
     }
 
+    /// Why the system failed at last, if it has.
+    pub fn reason(&self) -> Option<ErrorKind> {
+        self.reason
+    }
+
     /// Opens a file and reads it to its end, or to one byte more than `max`.
-    fn gather_file(&self, name: &str, max: usize, into: &mut Vec<u8>) -> Result<Answer, AllocError>
+    fn gather_file(
+        &self,
+        name: &str,
+        max: usize,
+        into: &mut Vec<u8>,
+        reason: &mut Option<ErrorKind>,
+    ) -> Result<Answer, AllocError>
         ensures kept { StartsWith into.new.items into.old.items }
         ensures answer { IfOk result (Gathers None max into.old.items into.new.items) }
     {
         match fs::open(self.rt, name) {
-            Ok(mut file) => gather(&mut file, max, into),
-            Err(_) => Ok(Answer::Failed),
+            Ok(mut file) => gather(&mut file, max, into, reason),
+            Err(error) => {
+                *reason = Some(error.kind());
+                Ok(Answer::Failed)
+            }
         }
     }
 }
@@ -113,7 +136,8 @@ impl<'a, R: rt::Files> Files for RealFiles<'a, R> {
     {
         let kept = String::from_str(alloc, name)?;
         let start = into.len();
-        let gathered = self.gather_file(name, max, into);
+        let mut reason = None;
+        let gathered = self.gather_file(name, max, into, &mut reason);
         let answer = match gathered {
             Ok(answer) => answer,
             Err(_) => {
@@ -131,6 +155,7 @@ impl<'a, R: rt::Files> Files for RealFiles<'a, R> {
             Answer::Failed => {
                 into.truncate(start);
                 self.faults = self.faults.saturating_add(1);
+                self.reason = reason;
                 Err(FileFault::Failed)
             }
             Answer::TooLong => {

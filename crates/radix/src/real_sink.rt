@@ -1,4 +1,4 @@
-//! A sink over a writer. It tells nothing of what was put, and gathers pieces before it writes them.
+//! A sink over a writer. No contract knows its bytes. It gathers pieces before it writes them.
 
 ghost use Rattle.std.specs.Prelude.{◌≡◌, ◌≤◌, ◌↔◌, ◌++◌, [], None, Some, IsSome, OnOk, OnErr, IsTrue, is_some, is_ok, is_err, if◌then◌else◌};
 ghost use Rattle.std.specs.Io.KnownBytes.{Appends};
@@ -91,7 +91,7 @@ impl<W: Write + Drop> RealSink<W> {
         SinkFault
     }
 
-    /// Puts a piece behind what waits, if there is room, and says whether there was.
+    /// Appends a piece to what waits, if there is room, and says whether there was.
     fn try_gather(&mut self, bytes: &[u8]) -> bool
         ensures { self.new ≡ (if result then record self.old { waiting = self.old.waiting ++ bytes.now } else self.old) }
     {
@@ -119,7 +119,7 @@ impl<W: Write + Drop> RealSink<W> {
         }
     }
 
-    /// Writes a piece behind what was written.
+    /// Writes a piece after what was written.
     fn write_piece(&mut self, bytes: &[u8]) -> Result<(), SinkFault>
         ensures ok { OnOk result (Appends self.old.written self.new.written bytes.now) }
         ensures err { OnErr result (AppendsFront self.old.written self.new.written bytes.now) }
@@ -154,7 +154,7 @@ impl<W: Write + Drop> Sink for RealSink<W> {
 
     ghost faults = { λ s. s.faults };
 
-    /// Writes what waits before a piece that has no room behind it. It fails where the system fails, and once a
+    /// Writes what waits before a piece that has no room after it. It fails where the system fails, and once a
     /// write has failed.
     fn put(&mut self, bytes: &[u8]) -> Result<(), SinkFault>
         ensures ok { OnOk result (Appends (put_so_far self.old) (put_so_far self.new) bytes.now) }

@@ -1,11 +1,10 @@
+mod messages;
+
 use crate::call::run;
-use crate::message::Message;
 use crate::real_files::{RealFiles, gather};
 use crate::real_sink::RealSink;
-use elf_image::ElfFault;
 use outer_io::{Answer, FileFault, Files, Sink, SinkFault};
-use radix_top::Status;
-use std::alloc::{AllocError, Global};
+use std::alloc::Global;
 use std::io::{Error, ErrorKind, Read, Write};
 use std::test::Fail;
 use std::{env, fs, io, process};
@@ -85,6 +84,7 @@ fn a_file_is_read_within_its_bound(rt: HostRuntime) -> Result<(), Fail> {
     assert_eq!(rt; missing, Err(FileFault::Failed));
     assert_eq!(rt; into.as_slice(), b"<seven b".as_slice());
     assert_eq!(rt; files.faults(), 1);
+    assert_eq!(rt; files.reason(), Some(ErrorKind::NotFound));
     Ok(())
 }
 
@@ -106,7 +106,9 @@ fn reading_goes_on_after_an_interruption(rt: HostRuntime) -> Result<(), Fail> {
             fault,
         };
         let mut into = Vec::from_slice(rt.alloc(), b"<")?;
-        assert_eq!(rt; gather(&mut reader, max, &mut into)?, want);
+        let mut reason = None;
+        assert_eq!(rt; gather(&mut reader, max, &mut into, &mut reason)?, want);
+        assert_eq!(rt; reason, fault);
         assert_eq!(rt; into.as_slice(), kept);
     }
     Ok(())
@@ -158,44 +160,8 @@ fn a_sink_breaks_at_its_first_fault(rt: HostRuntime) -> Result<(), Fail> {
     Ok(())
 }
 
-fn message(alloc: Global, words: &[String], status: Status) -> Result<String, AllocError> {
-    Message { words, status }.to_string(alloc)
-}
-
 #[test]
-fn messages_name_the_file_and_the_place(rt: HostRuntime) -> Result<(), Fail> {
-    let mut words = Vec::new(rt.alloc());
-    for word in ["run", "a", "b c", "3"] {
-        words.push(String::from_str(rt.alloc(), word)?)?;
-    }
-    for (status, want) in [
-        (
-            Status::ReadFault(1),
-            "radix: cannot read the file 'a' (word 1)\n",
-        ),
-        (
-            Status::TooLong(2),
-            "radix: the file 'b c' is longer than 64 MiB\n",
-        ),
-        (
-            Status::BadImage(ElfFault::Form),
-            "radix: the file 'a' is no image of the one form that is read so far\n",
-        ),
-        (
-            Status::BadSchedule(0),
-            "radix: the file 'b c' is no schedule: it breaks at byte 0\n",
-        ),
-        (Status::Memory, "radix: out of memory\n"),
-        (Status::WriteFault, ""),
-    ] {
-        let text = message(rt.alloc(), &words, status)?;
-        assert_eq!(rt; text.as_str(), want);
-    }
-    Ok(())
-}
-
-#[test]
-fn the_program_tells_its_version_and_refuses_no_words(rt: HostRuntime) -> Result<(), Fail> {
+fn the_program_prints_its_version_and_refuses_no_words(rt: HostRuntime) -> Result<(), Fail> {
     let mut words = Vec::new(rt.alloc());
     assert_eq!(rt; run(&rt, &words), 2);
     words.push(String::from_str(rt.alloc(), "--version")?)?;

@@ -2,12 +2,12 @@
 use Rattle.std.proofs.Common.{◌≡◌, ℕ, ◌<◌, ◌≤◌, List, length, Option, None, Ok, refl, sym, inl, inr, subst}
 use Rattle.std.specs.Prelude.{IfSome}
 use Rattle.outer_io.specs.Outside.{Asked, added}
-use Rattle.outer_io.specs.Printing.{rose_then}
+use Rattle.outer_io.proofs.Printing.{rose_then}
 use Rattle.elf_image.specs.declared.image.Image.{Image}
 use Rattle.elf_image.specs.declared.fault.ElfFault.TheVariants as elf_faults
 use Rattle.elf_image.specs.IsImage.{IsImage, IsImageFault}
 use Rattle.sched_text.specs.Reading.{plan_of}
-use Rattle.ppc_machine.specs.Held.{Held}
+use Rattle.ppc_machine.specs.MachineView.{MachineView}
 use Rattle.radix_top.specs.declared.command.Command.{Command}
 use Rattle.radix_top.specs.declared.command.Command.TheVariants.{Run}
 use Rattle.radix_top.specs.declared.status.Refusal.{Refusal}
@@ -16,14 +16,14 @@ use Rattle.radix_top.specs.declared.status.Status.{Status}
 use Rattle.radix_top.specs.declared.status.Status.TheVariants as statuses
 use Rattle.radix_top.specs.Statuses.{refused_status}
 use Rattle.radix_top.specs.Words.{Text, word_at, command_of}
-use Rattle.radix_top.specs.Inputs.{Met, met, most, FileWord, image_word, schedule_word, Reaches, FileFails, IsGoodFile}
+use Rattle.radix_top.specs.Inputs.{FilesSeen, met, most, FileWord, image_word, schedule_word, Reaches, FileFails, IsGoodFile}
 use Rattle.radix_top.specs.Causes.{HasCause, fault_line}
 use Rattle.radix_top.specs.Calls.{Says, WasRefused}
 use Rattle.radix_top.specs.Printed.{PrintsAs}
 use Rattle.radix_top.proofs.Files.{weaker}
 
 -- a file that a command comes to read and that fails is the cause
-pub fails_cause : (m : Met) (words : List Text) (f : FileWord) (r : Refusal) → Reaches m words f → FileFails m f r → HasCause m words r
+pub fails_cause : (m : FilesSeen) (words : List Text) (f : FileWord) (r : Refusal) → Reaches m words f → FileFails m f r → HasCause m words r
 fails_cause m words f (refusals.Usage place) reaches fails = absurd fails
 fails_cause m words f (refusals.ReadFault place) reaches fails = record { file = f; reaches = reaches; fails = fails }
 fails_cause m words f (refusals.TooLong place) reaches fails = record { file = f; reaches = reaches; fails = fails }
@@ -32,11 +32,11 @@ fails_cause m words f (refusals.BadSchedule place) reaches fails = record { file
 fails_cause m words f refusals.Memory reaches fails = tt
 
 -- a run reads its image first
-pub reaches_image : (m : Met) (words : List Text) (command : Command) → command_of words ≡ Ok command → Reaches m words (image_word words)
+pub reaches_image : (m : FilesSeen) (words : List Text) (command : Command) → command_of words ≡ Ok command → Reaches m words (image_word words)
 reaches_image m words (Run count) is = record { command = Run count; is_command = is; reaches = inl refl }
 
 -- and then its schedule, where the image is good
-pub reaches_schedule : (m : Met) (words : List Text) (command : Command) (image : Image) → command_of words ≡ Ok command →
+pub reaches_schedule : (m : FilesSeen) (words : List Text) (command : Command) (image : Image) → command_of words ≡ Ok command →
     IfSome (m.told (word_at words 1)) (λ bytes. (length bytes ≤ most) × IsImage bytes image) → Reaches m words (schedule_word words)
 reaches_schedule m words (Run count) image is good =
     let good' : IsGoodFile m (image_word words) = weaker (m.told (word_at words 1)) (λ bytes. (length bytes ≤ most) × IsImage bytes image) _ (λ bytes here. (here.0, (image, here.1))) good in
@@ -59,7 +59,7 @@ fails_later told told' first mid last asked f (refusals.BadSchedule place) same 
     (fails.0, (fails.1.0, told_first told told' f.name (λ bytes. (length bytes ≤ most) × (plan_of bytes ≡ _)) (same f.name) fails.1.1))
 fails_later told told' first mid last asked f refusals.Memory same le fails = tt
 
-says_line : (m : Met) (words : List Text) (machine : Option Held) (f f' : ℕ) (old new : Option (List ℕ)) (r : Refusal) → WasRefused m words machine old new r → Says m words machine f f' old new (refused_status r)
+says_line : (m : FilesSeen) (words : List Text) (machine : Option MachineView) (f f' : ℕ) (old new : Option (List ℕ)) (r : Refusal) → WasRefused m words machine old new r → Says m words machine f f' old new (refused_status r)
 says_line m words machine f f' old new (refusals.Usage place) is = is
 says_line m words machine f f' old new (refusals.ReadFault place) is = is
 says_line m words machine f f' old new (refusals.TooLong place) is = is
@@ -67,13 +67,13 @@ says_line m words machine f f' old new (refusals.BadImage fault) is = is
 says_line m words machine f f' old new (refusals.BadSchedule place) is = is
 says_line m words machine f f' old new refusals.Memory is = is
 
-says_whole : (m : Met) (words : List Text) (machine : Option Held) (f f' : ℕ) (old new : Option (List ℕ)) (r : Refusal) (s : Status) → machine ≡ None → HasCause m words r →
+says_whole : (m : FilesSeen) (words : List Text) (machine : Option MachineView) (f f' : ℕ) (old new : Option (List ℕ)) (r : Refusal) (s : Status) → machine ≡ None → HasCause m words r →
     (s ≡ refused_status r) × (new ≡ added old (fault_line r)) → Says m words machine f f' old new s
 says_whole m words machine f f' old new r s none cause prints =
     subst (Says m words machine f f' old new) (sym prints.0) (says_line m words machine f f' old new r (record { none = none; cause = cause; printed = prints.1 }))
 
 -- a refusal whose line was printed, or cut short
-pub says_refused : (m : Met) (words : List Text) (machine : Option Held) (f f' : ℕ) (old new : Option (List ℕ)) (r : Refusal) (s : Status) → machine ≡ None → HasCause m words r →
+pub says_refused : (m : FilesSeen) (words : List Text) (machine : Option MachineView) (f f' : ℕ) (old new : Option (List ℕ)) (r : Refusal) (s : Status) → machine ≡ None → HasCause m words r →
     PrintsAs (refused_status r) (fault_line r) f f' old new s → Says m words machine f f' old new s
 says_refused m words machine f f' old new r statuses.WriteFault none cause prints =
     (prints.0, inl (record { refusal = r; none = none; cause = cause; front = prints.1 }))

@@ -7,16 +7,16 @@ use Rattle.elf_image.specs.declared.fault.ElfFault.TheVariants as elf_faults
 use Rattle.radix_top.specs.declared.status.Refusal.{Refusal}
 use Rattle.radix_top.specs.declared.status.Refusal.TheVariants as refusals
 use Rattle.radix_top.specs.Words.{Text, command_of}
-use Rattle.radix_top.specs.Inputs.{Met, FileWord, Reaches, FileFails}
+use Rattle.radix_top.specs.Inputs.{FilesSeen, FileWord, Reaches, FileFails}
 
 -- the refusal is about a file that the command comes to read
-pub record FailsAtFile (m : Met) (words : List Text) (r : Refusal) : Type 0 where
+pub record FailsAtFile (m : FilesSeen) (words : List Text) (r : Refusal) : Type 0 where
   pub file : FileWord
   pub reaches : Reaches m words file
   pub fails : FileFails m file r
 
--- why a call is refused; want of memory has no cause
-abbrev pub HasCause : Met → List Text → Refusal → Type 0
+-- why a call is refused; memory that ran out has no cause
+abbrev pub HasCause : FilesSeen → List Text → Refusal → Type 0
 HasCause m words (refusals.Usage place) = command_of words ≡ Err place
 HasCause m words (refusals.ReadFault place) = FailsAtFile m words (refusals.ReadFault place)
 HasCause m words (refusals.TooLong place) = FailsAtFile m words (refusals.TooLong place)

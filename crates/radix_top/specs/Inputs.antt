@@ -1,6 +1,6 @@
 -- The files that a command reads, in the order in which it reads them.
 use Rattle.std.specs.Prelude.{◌≡◌, ◌⊎◌, ◌<◌, ◌≤◌, ℕ, List, [], ◌∷◌, length, Option, Some, IfSome, Ok, Err}
-use Rattle.outer_io.specs.Outside.{Asked, Rose}
+use Rattle.outer_io.specs.Outside.{Asked, CountRose}
 use Rattle.outer_io.specs.declared.files.Answer.{Answer}
 use Rattle.outer_io.specs.declared.files.Answer.TheVariants as answers
 use Rattle.elf_image.specs.declared.fault.ElfFault.TheVariants as elf_faults
@@ -45,26 +45,26 @@ IsGood ImageFile bytes = (image : Image) × IsImage bytes image
 IsGood ScheduleFile bytes = (plan : Plan) × (plan_of bytes ≡ Ok plan)
 
 -- what a call met of the files: the bytes by name, the count of faults before and after, and the last call
-pub record Met : Type 0 where
+pub record FilesSeen : Type 0 where
   pub told : List ℕ → Option (List ℕ)
   pub before : ℕ
   pub after : ℕ
   pub last : Option Asked
 
-abbrev pub met : (List ℕ → Option (List ℕ)) → ℕ → ℕ → Option Asked → Met
+abbrev pub met : (List ℕ → Option (List ℕ)) → ℕ → ℕ → Option Asked → FilesSeen
 met told before after last = record { told = told; before = before; after = after; last = last }
 
--- the file is within the bound and good, as far as its bytes are told
-abbrev pub IsGoodFile : Met → FileWord → Type 0
+-- the file is within the bound and good, as far as its bytes are known
+abbrev pub IsGoodFile : FilesSeen → FileWord → Type 0
 IsGoodFile m f = IfSome (m.told f.name) (λ bytes. (length bytes ≤ most) × IsGood f.kind bytes)
 
 -- the file stands in the list, and each one before it is good
-abbrev pub ReachesIn : Met → List FileWord → FileWord → Type 0
+abbrev pub ReachesIn : FilesSeen → List FileWord → FileWord → Type 0
 ReachesIn m [] f = ⊥
 ReachesIn m (g ∷ gs) f = (f ≡ g) ⊎ (IsGoodFile m g × ReachesIn m gs f)
 
 -- the words are a command, and it comes to read the file
-pub record Reaches (m : Met) (words : List Text) (f : FileWord) : Type 0 where
+pub record Reaches (m : FilesSeen) (words : List Text) (f : FileWord) : Type 0 where
   pub command : Command
   pub is_command : command_of words ≡ Ok command
   pub reaches : ReachesIn m (files_of words command) f
@@ -74,23 +74,23 @@ abbrev pub asked : List ℕ → Answer → Asked
 asked name answer = record { name = name; max = most; answer = answer }
 
 -- the file was the last that was read
-abbrev pub WasRead : Met → List ℕ → Type 0
+abbrev pub WasRead : FilesSeen → List ℕ → Type 0
 WasRead m name = m.last ≡ Some (asked name answers.Read)
 
 -- the outside failed in this call, at this file
-abbrev pub FailedToRead : Met → List ℕ → Type 0
-FailedToRead m name = Rose m.before m.after × (m.last ≡ Some (asked name answers.Failed))
+abbrev pub FailedToRead : FilesSeen → List ℕ → Type 0
+FailedToRead m name = CountRose m.before m.after × (m.last ≡ Some (asked name answers.Failed))
 
 -- the file is longer than the bound
-abbrev pub WasTooLong : Met → List ℕ → Type 0
+abbrev pub WasTooLong : FilesSeen → List ℕ → Type 0
 WasTooLong m name = (m.last ≡ Some (asked name answers.TooLong)) × IfSome (m.told name) (λ bytes. most < length bytes)
 
--- the file was read, and its bytes, as far as they are told, are within the bound and as P says
-abbrev pub WasReadAs : Met → List ℕ → (List ℕ → Type 0) → Type 0
+-- the file was read, and its bytes, as far as they are known, are within the bound and as P says
+abbrev pub WasReadAs : FilesSeen → List ℕ → (List ℕ → Type 0) → Type 0
 WasReadAs m name P = WasRead m name × IfSome (m.told name) (λ bytes. (length bytes ≤ most) × P bytes)
 
 -- what a refusal says of the file that it is about
-abbrev pub FileFails : Met → FileWord → Refusal → Type 0
+abbrev pub FileFails : FilesSeen → FileWord → Refusal → Type 0
 FileFails m f (refusals.ReadFault place) = (place ≡ f.place) × FailedToRead m f.name
 FileFails m f (refusals.TooLong place) = (place ≡ f.place) × WasTooLong m f.name
 FileFails m f (refusals.BadImage elf_faults.Form) = (f.kind ≡ ImageFile) × WasReadAs m f.name (λ bytes. IsImageFault bytes elf_faults.Form)

@@ -11,7 +11,7 @@ use Rattle.radix_top.specs.declared.status.Status.TheVariants as statuses
 use Rattle.radix_top.specs.Words.{Text, word_at, command_of}
 use Rattle.radix_top.specs.Inputs.{most}
 
--- the words are a run, and its files are told, within the bound and good
+-- the words are a run, and the bytes of its files are known, within the bound and good
 pub record AcceptsRun (told : List ℕ → Option (List ℕ)) (words : List Text) : Type 0 where
   pub count : ℕ
   pub is_command : command_of words ≡ Ok (Run count)

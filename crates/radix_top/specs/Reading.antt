@@ -2,10 +2,10 @@
 use Rattle.std.specs.Prelude.{◌≡◌, ℕ, List}
 use Rattle.radix_top.specs.declared.status.Refusal.{Refusal}
 use Rattle.radix_top.specs.declared.status.Refusal.TheVariants as refusals
-use Rattle.radix_top.specs.Inputs.{Met, FailedToRead, WasTooLong}
+use Rattle.radix_top.specs.Inputs.{FilesSeen, FailedToRead, WasTooLong}
 
 -- the file of a name, which the word with this number is, was not read
-abbrev pub ReadFails : Met → List ℕ → ℕ → Refusal → Type 0
+abbrev pub ReadFails : FilesSeen → List ℕ → ℕ → Refusal → Type 0
 ReadFails m name place (refusals.ReadFault p) = (p ≡ place) × FailedToRead m name
 ReadFails m name place (refusals.TooLong p) = (p ≡ place) × WasTooLong m name
 ReadFails m name place refusals.Memory = Unit {0}

@@ -15,7 +15,7 @@ refused_status (refusals.BadImage fault) = statuses.BadImage fault
 refused_status (refusals.BadSchedule place) = statuses.BadSchedule place
 refused_status refusals.Memory = statuses.Memory
 
--- of a call whose run ended so and was printed
+-- of a call whose run had this end and was printed
 abbrev pub ended_status : Ended → Status
 ended_status ends.AllRun = statuses.Done ends.AllRun
 ended_status ends.ScheduleEnd = statuses.Done ends.ScheduleEnd

@@ -27,7 +27,7 @@ abbrev pub ◌>>=◌ : {A B : Type 0} → Result A ℕ → (A → Result B ℕ) 
 (Ok x) >>= f = f x
 (Err e) >>= f = Err e
 
--- the options behind the positional words, whose first word has this number; there is none yet
+-- the options after the positional words, whose first word has this number; there are none
 abbrev pub options : ℕ → Command → List Text → Result Command ℕ
 options place command [] = Ok command
 options place command (w ∷ ws) = Err place

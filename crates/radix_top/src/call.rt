@@ -9,8 +9,8 @@ ghost use Rattle.radix_top.specs.Statuses.{refused_status};
 ghost use Rattle.radix_top.specs.Printed.{PrintsAs, RunsReady};
 ghost use Rattle.radix_top.specs.Laws.{AcceptsRun, EndsWell, NoReadFault, NoWriteFault};
 
-use crate::fault_line::fault_line;
-use crate::inputs::{Ready, prepare};
+use crate::fault_lines::fault_line;
+use crate::inputs::{RunInputs, prepare};
 use crate::status::{Refusal, Status, ended_status, refused_status};
 use outer_io::{Files, Sink};
 use ppc_machine::Machine;
@@ -36,7 +36,7 @@ fn refuse<K: Sink>(refusal: Refusal, out: &mut K) -> Status
 }
 
 /// Runs a machine that was just opened, leaves it in the bench, and prints its report.
-fn run_ready<K: Sink>(machine: Machine, ready: &Ready, out: &mut K, bench: &mut Bench) -> Status
+fn run_ready<K: Sink>(machine: Machine, ready: &RunInputs, out: &mut K, bench: &mut Bench) -> Status
     requires machine { machine ≡ opened ready.now.image ram_mib 1 ready.now.count }
     requires threads { ready.now.schedule.threads ≡ 1 }
     ensures counts { K.faults out.old ≤ K.faults out.new }
@@ -103,7 +103,7 @@ pub fn radix_call<F: Files, K: Sink>(
     ensures reads { F.faults files.old ≤ F.faults files.new }
     ensures writes { K.faults out.old ≤ K.faults out.new }
 
-    // A run whose files are told and good is done or stops, unless memory or the outside fails; and the outside
+    // A run whose files are known and good is done or stops, unless memory or the outside fails; and the outside
     // is never said to fail where its count stays 0.
     ensures complete { AcceptsRun (F.told files.old) words.now → EndsWell result }
     ensures sure_files { F.faults files.new ≡ 0 → NoReadFault result }

@@ -47,8 +47,8 @@ pub fn read_command(words: &[String]) -> Result<Command, usize>
     }
 }
 
-/// The command with the options behind its positional words, the first of which has number 4. There is no
-/// option yet.
+/// The command with the options after its positional words, the first of which has number 4. There are none, so
+/// a further word is wrong.
 fn read_options(command: Command, words: &[String]) -> Result<Command, usize>
     ensures { result ≡ options 4 command words.now }
 {

@@ -22,7 +22,7 @@ const MOST_BYTES: usize = 64 << 20;
 
 /// What a run needs.
 #[derive(Drop)]
-pub struct Ready {
+pub struct RunInputs {
     /// How many steps are asked for.
     pub count: u32,
     /// The image.
@@ -88,7 +88,11 @@ fn read_plan<F: Files>(alloc: Global, words: &[String], files: &mut F) -> Result
 }
 
 /// Reads the words and then the files. The first refusal decides.
-pub fn prepare<F: Files>(alloc: Global, words: &[String], files: &mut F) -> Result<Ready, Refusal>
+pub fn prepare<F: Files>(
+    alloc: Global,
+    words: &[String],
+    files: &mut F,
+) -> Result<RunInputs, Refusal>
     ensures same { (n : List ℕ) → F.told files.new n ≡ F.told files.old n }
     ensures counts { F.faults files.old ≤ F.faults files.new }
     ensures command { IfOk result (λ r. command_of words.now ≡ Ok (Run r.count)) }
@@ -105,7 +109,7 @@ pub fn prepare<F: Files>(alloc: Global, words: &[String], files: &mut F) -> Resu
     };
     let image = read_image(alloc, words, files)?;
     let schedule = read_plan(alloc, words, files)?;
-    Ok(Ready {
+    Ok(RunInputs {
         count,
         image,
         schedule,

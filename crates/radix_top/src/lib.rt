@@ -3,13 +3,14 @@
 
 mod call;
 mod command;
-mod fault_line;
+mod fault_lines;
 mod inputs;
 mod status;
 
 pub use call::{Bench, radix_call};
 pub use command::{Command, read_command};
-pub use status::{Refusal, Status};
+pub use fault_lines::fault_line;
+pub use status::{Refusal, Status, refused_status};
 
 #[cfg(test)]
 mod tests;

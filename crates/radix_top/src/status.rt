@@ -11,15 +11,15 @@ use journal_core::{Ended, RowKind, StopName};
 pub enum Status {
     /// The command was done; a run made all its steps, or its schedule has no next turn.
     Done(Ended),
-    /// The words are no command; the number of the first wrong or missing word, from 0.
+    /// The words are not a command; the number of the first wrong or missing word, from 0.
     Usage(usize),
     /// The outside failed to read the file that the word of this number names.
     ReadFault(usize),
     /// The file that the word of this number names is longer than 64 MiB.
     TooLong(usize),
-    /// The image is none, for this reason.
+    /// The file is not an image, for this reason.
     BadImage(ElfFault),
-    /// The schedule breaks at this byte.
+    /// The file is not a schedule, from this byte on.
     BadSchedule(usize),
     /// The outside failed to take what was printed.
     WriteFault,
@@ -27,22 +27,22 @@ pub enum Status {
     Memory,
     /// The machine stopped, for this reason and with this value.
     Stopped(StopName, u64),
-    /// This list of the journal, which has so many rows, has no room for one more step.
+    /// This list of the journal, which has this many rows, has no room for one more step.
     JournalFull(RowKind, u32),
 }
 
 /// Why a call ends before it opens a machine.
 #[derive(Clone, Copy, Debug, PartialEq, Eq)]
 pub enum Refusal {
-    /// The words are no command; the number of the first wrong or missing word, from 0.
+    /// The words are not a command; the number of the first wrong or missing word, from 0.
     Usage(usize),
     /// The outside failed to read the file that the word of this number names.
     ReadFault(usize),
     /// The file that the word of this number names is longer than 64 MiB.
     TooLong(usize),
-    /// The image is none, for this reason.
+    /// The file is not an image, for this reason.
     BadImage(ElfFault),
-    /// The schedule breaks at this byte.
+    /// The file is not a schedule, from this byte on.
     BadSchedule(usize),
     /// Memory ran out.
     Memory,
@@ -62,7 +62,7 @@ pub fn refused_status(refusal: Refusal) -> Status
     }
 }
 
-/// The status of a call whose run ended so and was printed.
+/// The status of a call whose run had this end and was printed.
 pub fn ended_status(ended: Ended) -> Status
     ensures { result ≡ ended_status ended }
 {

@@ -20,7 +20,7 @@ one_thread = record { threads = 1; items = (record { thread = 0; count = 1 }) �
 abbrev pub plan_of : List ℕ → Result Plan ℕ
 plan_of bytes = if bytes_eq bytes one_thread_text then Ok one_thread else Err 0
 
--- what a reader answers: the plan of the bytes, or the place of their first fault; want of memory says nothing
+-- what a reader answers: the plan of the bytes, or the place of their first fault; memory that ran out says nothing
 abbrev pub Gives : List ℕ → Result Plan SchedFault → Type 0
 Gives bytes (Ok plan) = plan_of bytes ≡ Ok plan
 Gives bytes (Err (faults.Place place)) = plan_of bytes ≡ Err place

@@ -91,7 +91,7 @@ fn counts_have_no_sign_no_leading_zero_and_a_bound(rt: HostRuntime) -> Result<()
 }
 
 #[test]
-fn options_are_no_words_yet(rt: HostRuntime) -> Result<(), Fail> {
+fn a_word_after_n_is_refused(rt: HostRuntime) -> Result<(), Fail> {
     let options: [&str; 8] = [
         "--trace", "--walks", "--guest", "--ram", "--help", "-h", "16", "g@20000",
     ];

@@ -1,4 +1,4 @@
-//! Images and schedules that are none, and the order in which files are read.
+//! Files that are not an image or a schedule, and the order in which files are read.
 
 use super::support::{FIRST, ONE_THREAD, Outcome, image, run};
 use crate::Status;

@@ -106,7 +106,7 @@ fn a_word_that_is_no_form_or_is_not_executed_stops_by_name(rt: HostRuntime) -> R
 }
 
 #[test]
-fn a_fetch_behind_the_end_of_ram_stops_the_machine(rt: HostRuntime) -> Result<(), Fail> {
+fn a_fetch_after_the_end_of_ram_stops_the_machine(rt: HostRuntime) -> Result<(), Fail> {
     let file = image(rt.alloc(), 0xff_fffc, 0xff_fffc, &[0x3860_0001])?;
     let left = run(rt.alloc(), &file, ONE_THREAD, "9")?;
     assert_eq!(rt;

@@ -1,0 +1,247 @@
+#!/usr/bin/env bash
+# Runs the built program from outside, and compares its exit status, its standard output and its standard error: words,
+# files, names, pipes, full disks, little memory. No clause and no test of the crates speaks of these for the built program.
+# Ends at the first difference.
+set -u
+
+top=$(cd "$(dirname "${BASH_SOURCE[0]}")/.." && pwd)
+program=$top/crates/radix/out/radix
+texts=$top/tests/texts
+folder=$(mktemp -d) || exit 1
+trap 'rm -rf "$folder"' EXIT
+count=0
+
+if [ ! -x "$program" ]; then
+    "$top/tools/build.sh" || exit 1
+fi
+cd "$folder" || exit 1
+cp "$top/examples/first/first.elf" "$top/examples/first/first.sched" . || exit 1
+
+# Ends the script with what was wanted and what came.
+fail() {
+    echo "cli: $1"
+    echo "  wanted: $2"
+    echo "  came:   $3"
+    echo "Run the command by hand. Where the new answer is right, change docs/FORMATS.md and tests/cli.sh; else mend the program."
+    exit 1
+}
+
+# Compares a file with a text: what it is, the file, the text.
+compare() {
+    printf '%s' "$3" >wanted
+    if ! cmp -s "$2" wanted; then
+        fail "$1" "$(cat -v wanted)" "$(cat -v "$2")"
+    fi
+}
+
+# Runs the program and compares: the status, the standard output, the standard error, then the words.
+expect() {
+    local status=$1 out=$2 err=$3 came
+    shift 3
+    "$program" "$@" >out 2>err </dev/null
+    came=$?
+    count=$((count + 1))
+    [ "$came" -eq "$status" ] || fail "exit status of radix $*" "$status" "$came, $(cat -v err)"
+    compare "standard output of radix $*" out "$out"
+    compare "standard error of radix $*" err "$err"
+}
+
+line=$'\n'
+hint="Try 'radix --help' for what can be asked.$line"
+report=$(cat "$top/examples/first/first.report")$line
+help=$(cat "$texts/help.txt")$line
+version=$(cat "$texts/version.txt")$line
+
+# A wrong command line: the number of the word, what is said of it, then the words.
+expect_usage() {
+    local place=$1 said=$2
+    shift 2
+    expect 2 "fault usage $place$line" "radix: $said$line$hint" "$@"
+}
+
+# Help, version, and the run of README.
+expect 0 "$report" '' run first.elf first.sched 3
+expect 0 "$help" '' --help
+expect 0 "$version" '' --version
+awk '/^    radix 1$/ { on = 1 } on && /^    / { print substr($0, 5) } /^    \.$/ { on = 0 }' "$top/README.md" >readme
+compare 'the report in README.md' readme "$report"
+
+# Wrong words.
+expect_usage 0 'a command is missing'
+expect_usage 0 "'RUN' is no command of this version" RUN first.elf first.sched 1
+expect_usage 0 "'dis' is no command of this version" dis first.elf
+expect_usage 0 "'help' is no command of this version" help
+expect_usage 0 "'' is no command of this version" ''
+expect_usage 0 "'--help' takes no further word" --help --version
+expect_usage 1 'the image, the schedule and N are missing' run
+expect_usage 2 'the schedule and N are missing' run first.elf
+expect_usage 3 'N is missing' run first.elf first.sched
+for word in x 0x10 1,000 1048577 100000000000000000000000 '' ' 1' 1.0; do
+    expect_usage 3 "N is '$word', and must be 0 to 1048576 in decimal" run first.elf first.sched "$word"
+done
+expect_usage 3 "N is '01', and must be 0 to 1048576 in decimal, without a leading zero" run first.elf first.sched 01
+expect_usage 3 "N is '-1', and must be 0 to 1048576 in decimal, without a sign" run first.elf first.sched -1
+expect_usage 3 "N is '+1', and must be 0 to 1048576 in decimal, without a sign" run first.elf first.sched +1
+expect_usage 4 "unexpected '2'" run first.elf first.sched 1 2
+expect 2 "fault usage 0$line" "$help" -h
+expect 2 "fault usage 2$line" "$help" run --help
+expect 2 "fault usage 2$line" "$help" run -h
+
+# A word that is not UTF-8 text, and an earlier wrong word.
+expect_usage 0 'word 0 is not UTF-8 text' $'\xff'
+expect_usage 1 'word 1 is not UTF-8 text' run $'\xff' first.sched 3
+expect_usage 3 'word 3 is not UTF-8 text' run first.elf first.sched $'3\xc0'
+expect_usage 4 'word 4 is not UTF-8 text' run first.elf first.sched 3 $'\xff'
+expect_usage 3 "N is 'x', and must be 0 to 1048576 in decimal" run first.elf first.sched x $'\xff'
+expect_usage 0 "'dis' is no command of this version" dis $'\xff'
+
+# Files that cannot be read, with the reason of the system.
+expect 3 "fault read 1$line" "radix: 'missing': no such file$line" run missing first.sched 3
+expect 3 "fault read 2$line" "radix: 'missing': no such file$line" run first.elf missing 3
+expect 3 "fault read 1$line" "radix: '': no such file$line" run '' first.sched 3
+expect 3 "fault read 1$line" "radix: '.': is a directory$line" run . first.sched 3
+expect 3 "fault read 1$line" "radix: 'first.elf/x': a part of its path is not a directory$line" run first.elf/x first.sched 3
+long=$(printf 'n%.0s' {1..300})
+expect 3 "fault read 1$line" "radix: '$long': the name is too long$line" run "$long" first.sched 3
+ln -s loop loop
+expect 3 "fault read 1$line" "radix: 'loop': too many symbolic links$line" run loop first.sched 3
+# A file that may not be read: by a user who is not root, since root may read all.
+: >closed
+chmod 0 closed
+if [ "$(id -u)" -ne 0 ]; then
+    expect 3 "fault read 1$line" "radix: 'closed': permission denied$line" run closed first.sched 3
+elif command -v setpriv >/dev/null; then
+    chmod 755 .
+    cp "$program" copied && chmod 755 copied
+    setpriv --reuid=65534 --regid=65534 --clear-groups ./copied run closed first.sched 3 >out 2>err
+    [ $? -eq 3 ] || fail 'exit status at a file that may not be read' 3 "other, $(cat -v err)"
+    compare 'the line at a file that may not be read' out "fault read 1$line"
+    compare 'what is said of a file that may not be read' err "radix: 'closed': permission denied$line"
+    count=$((count + 1))
+fi
+
+# Names with control bytes, line ends, quotes and letters beyond ASCII.
+expect 3 "fault read 1$line" "radix: 'a\\u{1b}[31m\\nfault image Form': no such file$line" \
+    run $'a\e[31m\nfault image Form' first.sched 3
+expect 3 "fault read 1$line" "radix: 'it\\'s\\t\\\\': no such file$line" run $'it\'s\t\\' first.sched 3
+expect 3 "fault read 1$line" "radix: 'größe': no such file$line" run 'größe' first.sched 3
+expect_usage 0 "'\\u{7}\\r' is no command of this version" $'\a\r'
+cp first.elf $'odd \e\nname'
+expect 0 "$report" '' run $'odd \e\nname' first.sched 3
+
+# Files that are read and are no image or no schedule.
+not_image='not an image that this version reads (docs/FORMATS.md, "The image")'
+not_schedule='not a schedule that this version reads, from byte 0 on (docs/FORMATS.md, "The schedule")'
+: >empty
+head -c 131 first.elf >short
+{ cat first.elf; printf 'x'; } >longer
+for name in empty short longer first.sched /bin/sh; do
+    expect 5 "fault image Form$line" "radix: '$name': $not_image$line" run "$name" first.sched 3
+done
+printf 'threads 1\r\n0\r\nrepeat\r\n' >crlf
+printf 'threads 1\n0\nrepeat' >cut
+printf 'threads 2\n0\nrepeat\n' >two
+for name in empty crlf cut two first.elf; do
+    expect 6 "fault schedule 0$line" "radix: '$name': $not_schedule$line" run first.elf "$name" 3
+done
+truncate -s 67108864 zeros
+expect 5 "fault image Form$line" "radix: 'zeros': $not_image$line" run zeros first.sched 3
+truncate -s 67108865 zeros
+expect 4 "fault long 1$line" "radix: 'zeros': longer than 64 MiB$line" run zeros first.sched 3
+rm zeros
+expect 4 "fault long 2$line" "radix: '/dev/zero': longer than 64 MiB$line" run first.elf /dev/zero 3
+
+# Images that differ from the first one in one number: a name for the file, the place of a byte, its new value.
+change_byte() {
+    cp first.elf "$1"
+    printf "\\x$3" | dd of="$1" bs=1 seek="$2" conv=notrunc status=none
+}
+change_byte more_memory.elf 104 10
+expect 0 "$report" '' run more_memory.elf first.sched 3
+change_byte odd_entry.elf 24 02
+expect 0 "${report/r12 0000000000010000/r12 0000000000010002}" '' run odd_entry.elf first.sched 3
+change_byte less_memory.elf 104 08
+change_byte first_abi.elf 48 01
+change_byte not_written.elf 68 05
+change_byte big_endian.elf 5 02
+"$top/tools/make_image.sh" 0xfffff8 0xfffff8 0x38600001 0x7C831A14 0x48000000 >beyond.elf
+for name in less_memory.elf first_abi.elf not_written.elf big_endian.elf beyond.elf; do
+    expect 5 "fault image Form$line" "radix: '$name': $not_image$line" run "$name" first.sched 3
+done
+"$top/tools/make_image.sh" 0xfffff4 0xfffff4 0x38600001 0x7C831A14 0x48000000 >last.elf
+last=${report/nia 0000000000010008/nia 0000000000fffffc}
+expect 0 "${last/r12 0000000000010000/r12 0000000000fffff4}" '' run last.elf first.sched 3
+head -c 120 first.elf >no_bytes.elf
+printf '\x00' | dd of=no_bytes.elf bs=1 seek=96 conv=notrunc status=none
+"$program" run no_bytes.elf first.sched 1 >out 2>err || fail 'a segment without bytes' 0 $?
+[ "$(sed -n 6p out)" = 'nia 0000000000000e40 msr 9000000000001001' ] || fail 'a segment without bytes' 'nia e40' "$(sed -n 6p out)"
+count=$((count + 1))
+
+# An image and a schedule from pipes.
+mkfifo pipe
+cat first.elf >pipe &
+expect 0 "$report" '' run pipe first.sched 3
+wait
+"$program" run /dev/stdin first.sched 3 <first.elf >out 2>err || fail 'an image from standard input' 0 $?
+compare 'an image from standard input' out "$report"
+
+# Stops. The first: the word c8000000 at 10008; then a fetch outside RAM.
+"$top/tools/make_image.sh" 0x10000 0x10000 0x38600001 0x7C831A14 0xC8000000 >float.elf
+"$program" run float.elf first.sched 9 >out 2>err
+[ $? -eq 13 ] || fail 'exit status of a stop' 13 other
+[ "$(sed -n 2p out)" = 'end stopped Unsupported 00000000c8000000' ] || fail 'the report of a stop' 'end stopped ..' "$(sed -n 2p out)"
+compare 'what is said of a stop' err "radix: stopped in step 2, at address 10008, word c8000000: Unsupported, this machine has no such instruction (docs/MACHINE.md, \"Stops\")$line"
+"$top/tools/make_image.sh" 0x1000000 0x10000 0x48000000 >outside.elf
+"$program" run outside.elf first.sched 9 >out 2>err
+[ $? -eq 13 ] || fail 'exit status of a stop' 13 other
+compare 'what is said of a stop' err "radix: stopped in step 0, at address 1000000: NoStorage, there is no RAM at real address 1000000 (docs/MACHINE.md, \"Stops\")$line"
+count=$((count + 3))
+
+# Output that is not taken: a closed pipe, a full disk, no standard output, no standard error.
+{ sleep 0.2; "$program" run first.elf first.sched 3 2>err; echo $? >status; } | true
+[ "$(cat status)" -eq 0 ] || [ "$(cat status)" -eq 11 ] || fail 'exit status at a closed pipe' '0 or 11' "$(cat status)"
+compare 'what is said at a closed pipe' err ''
+"$program" run first.elf first.sched 3 >/dev/full 2>err
+[ $? -eq 11 ] || fail 'exit status at a full disk' 11 other
+compare 'what is said at a full disk' err "radix: the output could not be written$line"
+"$program" run first.elf first.sched 3 2>err >&-
+[ $? -eq 11 ] || fail 'exit status without standard output' 11 other
+compare 'what is said without standard output' err "radix: the output could not be written$line"
+"$program" --help >/dev/full 2>err
+[ $? -eq 11 ] || fail 'exit status of --help at a full disk' 11 other
+"$program" run $'\xff' >/dev/full 2>err
+[ $? -eq 11 ] || fail 'exit status of wrong words at a full disk' 11 other
+compare 'what is said at a full disk' err "radix: the output could not be written$line"
+"$program" run missing first.sched 3 >out 2>&-
+[ $? -eq 3 ] || fail 'exit status without standard error' 3 other
+compare 'the line of a refusal without standard error' out "fault read 1$line"
+count=$((count + 6))
+
+# Little memory.
+(ulimit -v 12000 && exec "$program" run first.elf first.sched 3 >out 2>err)
+[ $? -eq 12 ] || fail 'exit status with little memory' 12 "other, $(cat -v err)"
+compare 'the line with little memory' out "fault memory$line"
+compare 'what is said with little memory' err "radix: out of memory$line"
+
+# The most steps, and none.
+"$program" run first.elf first.sched 1048576 >out 2>err || fail 'a run of 1,048,576 steps' 0 $?
+[ "$(sed -n 2,3p out | tr '\n' ' ')" = 'end all steps 1048576 ' ] || fail 'a run of 1,048,576 steps' 'all steps' "$(sed -n 2,3p out)"
+"$program" run first.elf first.sched 0 >out 2>err || fail 'a run of no steps' 0 $?
+[ "$(sed -n 2,3p out | tr '\n' ' ')" = 'end all steps 0 ' ] || fail 'a run of no steps' 'no steps' "$(sed -n 2,3p out)"
+count=$((count + 3))
+
+# The launcher, where nothing is built and the kit is not there.
+mkdir -p copy/tests copy/tools copy/crates && cp "$top/radix" "$top/crates.txt" copy/
+cp -r "$texts" copy/tests/ && cp "$top/tools/build.sh" copy/tools/
+bare=/usr/bin:/bin
+if [ ! -e /usr/bin/rt ] && [ ! -e /bin/rt ]; then
+    PATH=$bare copy/radix --help >out 2>err || fail 'the launcher with --help' 0 $?
+    compare 'the help of the launcher' out "$help"
+    PATH=$bare copy/radix run first.elf first.sched 3 >out 2>err
+    [ $? -eq 17 ] || fail 'the launcher without the kit' 17 other
+    compare 'the output of the launcher without the kit' out ''
+    compare 'what the launcher says without the kit' err "radix: the program is not built for these sources; that takes the Rattle kit, whose command rt is not on the path$line"
+    count=$((count + 2))
+fi
+
+echo "cli: $count runs of the program from outside are as they should be"
