@@ -60,7 +60,7 @@ def is_number(text):
 def planned_crates():
     """The crates that docs/ARCHITECTURE.md lists as to come."""
     with open(os.path.join(TOP, "docs", "ARCHITECTURE.md"), encoding="utf-8") as page:
-        part = page.read().partition("## Crates to come")[2].partition("\n## ")[0]
+        part = page.read().partition("## Planned crates")[2].partition("\n## ")[0]
     return set(re.findall(r"^\| `(\w+)` \|", part, re.MULTILINE))
 
 
