@@ -1,5 +1,5 @@
 #!/usr/bin/env python3
-"""Writes the files of `ppc_ops`, `word_decoder` and `ppc_decode` that repeat the instruction table of docs/INSTRUCTIONS.md.
+"""Writes the files of `ppc_ops`, `word_decoder`, `ppc_decode` and `storage_ops` that repeat the table of docs/INSTRUCTIONS.md.
 
 With `--check` it writes nothing, and fails where a file is not what the table gives.
 """
@@ -8,6 +8,7 @@ import os
 import sys
 import textwrap
 
+from access_forms import access_files
 from instruction_table import PRIMARY, read_table
 from opcode_branches import branch_files
 from operand_fields import operand_files
@@ -295,6 +296,7 @@ def all_files(table):
     files.update(operand_files(table))
     files.update(word_files(table))
     files.update(round_trip_files(table))
+    files.update(access_files(table))
     return files
 
 

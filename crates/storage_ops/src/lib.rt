@@ -1,0 +1,14 @@
+//! What loads, stores and instructions of cache blocks do, over any translation and any devices.
+#![tactic(auto)]
+
+mod access_table;
+mod answering;
+mod deeds;
+mod forms;
+mod parts;
+
+pub use access_table::access_form;
+pub use answering::Answers;
+pub use deeds::Deed;
+pub use forms::AccessForm;
+pub use parts::{Part, Parts};
