@@ -1,1 +1,4 @@
 pub mod PlaceLemmas
+pub mod NumberLemmas
+pub mod FitsLemmas
+pub mod WordLemmas
