@@ -58,7 +58,7 @@ def table_file(table):
         "",
         "ghost use Rattle.std.specs.Prelude.{◌≡◌, IfSome, true};",
         "ghost use Rattle.storage_ops.specs.AccessTable as table;",
-        "ghost use Rattle.storage_ops.specs.Forms.{is_size};",
+        "ghost use Rattle.ppc_bus.specs.Holding.{is_size};",
         "",
         "use crate::forms::{",
         "    AccessForm, in_reverse, loads, past_caches, stores, with_reservation, with_sign, with_update,",

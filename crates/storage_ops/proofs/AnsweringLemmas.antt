@@ -1,5 +1,5 @@
 -- One answer, and two of them.
-use Rattle.std.proofs.Common.{◌≡◌, ℕ, ◌+◌, ◌*◌, ◌≤◌, List, [], ◌∷◌, ◌++◌, length, Option, Some, None, arith, ap, sym, ◌∙◌, refl, subst, length-append, append-assoc}
+use Rattle.std.proofs.Common.{◌≡◌, ℕ, ◌+◌, ◌*◌, ◌≤◌, List, [], ◌∷◌, ◌++◌, length, Option, Some, None, arith, ap, sym, ◌∙◌, refl, subst, length-append, append_assoc}
 use Rattle.std.specs.List.{AllByRecursion}
 use Rattle.journal_core.specs.declared.rows.ReadRow.{ReadRow}
 use Rattle.journal_core.specs.declared.rows.FillRow.{FillRow}
@@ -13,14 +13,13 @@ use Rattle.journal_core.specs.Rows.{JournalView}
 use Rattle.journal_core.specs.Standing.{AreNamed}
 use Rattle.journal_core.specs.Turns.{Mark, NoFewer, Query, query_of, turn_in, mark_of}
 use Rattle.journal_core.specs.Answers.{IsAnswer, AreAnswered}
-use Rattle.journal_core.specs.Translating.{AreTrue, OnlyAdds, GoesOn, IsWithin, Stays}
+use Rattle.journal_core.specs.Translating.{IsQuiet, AreTrue, OnlyAdds, GoesOn, IsWithin, Stays}
 use Rattle.journal_core.proofs.AddsFacts.{goes_on}
 use Rattle.walk_laws.proofs.AnswersStay.{answer_goes_on}
 use Rattle.walk_laws.proofs.TrueAgain.{true_again}
 use Rattle.thread_regs.specs.declared.registers.Thread.{Thread}
 use Rattle.storage_ops.specs.declared.parts.Part.{Part}
-use Rattle.storage_ops.specs.declared.parts.Parts.{Parts}
-use Rattle.storage_ops.specs.Parts.{listed}
+use Rattle.storage_ops.specs.Parts.{listed_second}
 use Rattle.storage_ops.specs.Reaching.{ask_of, asks_for, reached, next_part}
 use Rattle.storage_ops.specs.Answering.{AreAnswers, StayTrue, AreChosen, AddsWalks, IsAnswered}
 
@@ -83,7 +82,7 @@ two_add old mid new one two =
     let from_mid : (j : JournalView) → j ≡ record old { rows = record old.rows { reads = old.rows.reads ++ one.reads; fills = old.rows.fills ++ one.fills } } → record j { rows = record j.rows { reads = j.rows.reads ++ two.reads; fills = j.rows.fills ++ two.fills } } ≡ record old { rows = record old.rows { reads = (old.rows.reads ++ one.reads) ++ two.reads; fills = (old.rows.fills ++ one.fills) ++ two.fills } } =
     λ j e. ap (λ (j : JournalView). record j { rows = record j.rows { reads = j.rows.reads ++ two.reads; fills = j.rows.fills ++ two.fills } }) e in
     let joined : record old { rows = record old.rows { reads = (old.rows.reads ++ one.reads) ++ two.reads; fills = (old.rows.fills ++ one.fills) ++ two.fills } } ≡ record old { rows = record old.rows { reads = old.rows.reads ++ (one.reads ++ two.reads); fills = old.rows.fills ++ (one.fills ++ two.fills) } } =
-    rw (append-assoc old.rows.reads one.reads two.reads, append-assoc old.rows.fills one.fills two.fills) refl in
+    rw (append_assoc old.rows.reads one.reads two.reads, append_assoc old.rows.fills one.fills two.fills) refl in
     record {
       reads = one.reads ++ two.reads;
       fills = one.fills ++ two.fills;
@@ -131,27 +130,28 @@ answered_twice chooses number moment ram ask next old mid new found second is st
     }
 
 -- the asks that are reached where the first answer is the last one, and where there are two
-pub reached_once : (t : Thread) (kind : AccessKind) (parts : Parts) (found : Found) → next_part found parts.second ≡ None → reached (asks_for t kind (listed parts)) (found ∷ []) ≡ ask_of t kind parts.first.at ∷ []
-reached_once t kind (record { first = first; second = None }) (Real at used) is = refl
-reached_once t kind (record { first = first; second = Some part }) (Real at used) is = absurd (none_is_some is)
+pub reached_once : (t : Thread) (kind : AccessKind) (first : Part) (o : Option Part) (found : Found) → next_part found o ≡ None → reached (asks_for t kind (first ∷ listed_second o)) (found ∷ []) ≡ ask_of t kind first.at ∷ []
+reached_once t kind first None (Real at used) is = refl
+reached_once t kind first (Some part) (Real at used) is = absurd (none_is_some is)
   where
     none_is_some : {A : Type 0} {x : A} → Some x ≡ None → ⊥
     none_is_some e = cc
-reached_once t kind (record { first = first; second = second }) (Fault cause used) is = refl
-reached_once t kind (record { first = first; second = second }) (Stop name value) is = refl
+reached_once t kind first o (Fault cause used) is = refl
+reached_once t kind first o (Stop name value) is = refl
 
-pub reached_twice : (t : Thread) (kind : AccessKind) (parts : Parts) (part : Part) (found second : Found) → next_part found parts.second ≡ Some part → reached (asks_for t kind (listed parts)) (found ∷ second ∷ []) ≡ ask_of t kind parts.first.at ∷ ask_of t kind part.at ∷ []
-reached_twice t kind (record { first = first; second = o }) part (Real at used) second is = rw is (last second)
+no_part : {A : Type 0} {x : A} → None ≡ Some x → ⊥
+no_part e = cc
+
+pub reached_twice : (t : Thread) (kind : AccessKind) (first part : Part) (o : Option Part) (found second : Found) → next_part found o ≡ Some part → reached (asks_for t kind (first ∷ listed_second o)) (found ∷ second ∷ []) ≡ ask_of t kind first.at ∷ ask_of t kind part.at ∷ []
+reached_twice t kind first part o (Real at used) second is = rw is (last second)
   where
     last : (second : Found) → ask_of t kind first.at ∷ reached (ask_of t kind part.at ∷ []) (second ∷ []) ≡ ask_of t kind first.at ∷ ask_of t kind part.at ∷ []
     last (Real b u) = refl
     last (Fault cause u) = refl
     last (Stop name value) = refl
-reached_twice t kind (record { first = first; second = o }) part (Fault cause used) second is = absurd (no is)
-  where
-    no : {A : Type 0} {x : A} → None ≡ Some x → ⊥
-    no e = cc
-reached_twice t kind (record { first = first; second = o }) part (Stop name value) second is = absurd (no is)
-  where
-    no : {A : Type 0} {x : A} → None ≡ Some x → ⊥
-    no e = cc
+reached_twice t kind first part o (Fault cause used) second is = absurd (no_part is)
+reached_twice t kind first part o (Stop name value) second is = absurd (no_part is)
+
+-- an answer completes no operation
+pub quiet_stays : (old new : JournalView) → OnlyAdds old new → IsQuiet old.rows → IsQuiet new.rows
+quiet_stays old new adds quiet = rw adds.rows quiet

@@ -13,7 +13,7 @@ use Rattle.storage_ops.specs.declared.forms.AccessForm.{AccessForm}
 use Rattle.storage_ops.specs.declared.deeds.Deed.{Deed}
 use Rattle.storage_ops.specs.declared.deeds.Deed.TheVariants.{Moves, Clears, Touches, Nothing}
 use Rattle.storage_ops.specs.declared.parts.Part.{Part}
-use Rattle.storage_ops.specs.Forms.{is_size}
+use Rattle.ppc_bus.specs.Holding.{is_size}
 use Rattle.storage_ops.specs.AccessTable.{access_form}
 use Rattle.storage_ops.specs.Parts.{part, parts_of}
 

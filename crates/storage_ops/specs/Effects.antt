@@ -23,9 +23,9 @@ use Rattle.storage_ops.specs.declared.deeds.Deed.{Deed}
 use Rattle.storage_ops.specs.declared.deeds.Deed.TheVariants.{Moves, Clears, Touches, Nothing}
 use Rattle.storage_ops.specs.declared.parts.Part.{Part}
 use Rattle.storage_ops.specs.Forms.{loaded, sent}
-use Rattle.storage_ops.specs.Parts.{part, laid, is_whole, bytes_in}
+use Rattle.storage_ops.specs.Parts.{is_whole, bytes_in}
 use Rattle.storage_ops.specs.Deeds.{deed_of, is_misaligned, address_in, parts_in}
-use Rattle.storage_ops.specs.Reaching.{and_then, places_of}
+use Rattle.storage_ops.specs.Reaching.{and_then, laid}
 use Rattle.storage_ops.specs.Checks.{first_refusal, unless_refused, device_of}
 
 -- a number of some bytes that is stored at a real address
@@ -76,24 +76,25 @@ split value (p ∷ ps) = record { at = p.at; size = p.size; value = value % 256 
 abbrev pub asked_at : AccessForm → ℕ × ℕ → ℕ → DeviceAsk
 asked_at form place value = record { slot = place.0; offset = place.1; size = form.size; store = form.store; value = value }
 
--- a load of bytes of RAM, part after part, or of a device's value
-abbrev pub load_after : AccessForm → ℕ → ℕ → ℕ → Thread → Around → List Part → Option (ℕ × ℕ) → After
-load_after form register base at t x parts None = registers (updated form base at (with_gpr t register (loaded form (le_value (bytes_in x.ram parts)))))
-load_after form register base at t x parts (Some place) =
-    record { thread = updated form base at (with_gpr t register (loaded form x.answer)); stored = []; asked = Some (asked_at form place 0) }
+-- a load of bytes of RAM, part after part, or of the value that a device gives
+abbrev pub load_after : AccessForm → ℕ → ℕ → ℕ → Thread → List ℕ → ℕ → List Part → Option (ℕ × ℕ) → After
+load_after form register base at t ram answer parts None = registers (updated form base at (with_gpr t register (loaded form (le_value (bytes_in ram parts)))))
+load_after form register base at t ram answer parts (Some place) =
+    record { thread = updated form base at (with_gpr t register (loaded form answer)); stored = []; asked = Some (asked_at form place 0) }
 
 -- a store of a register's bytes into RAM, part after part, or to a device
 abbrev pub store_after : AccessForm → ℕ → ℕ → ℕ → Thread → List Part → Option (ℕ × ℕ) → After
 store_after form register base at t parts None = record { thread = updated form base at t; stored = split (sent form (gpr t register)) parts; asked = None }
 store_after form register base at t parts (Some place) = record { thread = updated form base at t; stored = []; asked = Some (asked_at form place (sent form (gpr t register))) }
 
-abbrev pub move_after : AccessForm → ℕ → ℕ → ℕ → Thread → Around → List Part → After
-move_after form register base at t x parts =
-    if form.store then store_after form register base at t parts (device_of x.windows parts) else load_after form register base at t x parts (device_of x.windows parts)
+abbrev pub move_after : AccessForm → ℕ → ℕ → ℕ → Thread → List (Option Window) → List ℕ → ℕ → List Part → After
+move_after form register base at t windows ram answer parts =
+    if form.store then store_after form register base at t parts (device_of windows parts) else load_after form register base at t ram answer parts (device_of windows parts)
 
 -- a load or store whose parts lie so in real storage
-abbrev pub move_outcome : AccessForm → ℕ → ℕ → ℕ → Thread → Around → List Part → Outcome After
-move_outcome form register base at t x parts = unless_refused (first_refusal x.windows (is_whole parts) (length x.ram) parts) (Goes (move_after form register base at t x parts))
+abbrev pub move_outcome : AccessForm → ℕ → ℕ → ℕ → Thread → List (Option Window) → List ℕ → ℕ → List Part → Outcome After
+move_outcome form register base at t windows ram answer parts =
+    unless_refused (first_refusal windows (is_whole parts) (length ram) parts) (Goes (move_after form register base at t windows ram answer parts))
 
 -- so many doublewords of zeros, one behind another
 abbrev pub zeros : ℕ → ℕ → List Stored
@@ -105,13 +106,13 @@ abbrev pub clear_after : Thread → List Part → After
 clear_after t [] = registers t
 clear_after t (p ∷ ps) = record { thread = t; stored = zeros 16 p.at; asked = None }
 
-abbrev pub clear_outcome : Thread → Around → List Part → Outcome After
-clear_outcome t x parts = unless_refused (first_refusal x.windows false (length x.ram) parts) (Goes (clear_after t parts))
+abbrev pub clear_outcome : Thread → List (Option Window) → List ℕ → List Part → Outcome After
+clear_outcome t windows ram parts = unless_refused (first_refusal windows false (length ram) parts) (Goes (clear_after t parts))
 
 -- the access, whose parts lie so in real storage
 abbrev pub placed_outcome : Deed → Thread → Around → List Part → Outcome After
-placed_outcome (Moves form register base at) t x parts = move_outcome form register base at t x parts
-placed_outcome (Clears at) t x parts = clear_outcome t x parts
+placed_outcome (Moves form register base at) t x parts = move_outcome form register base at t x.windows x.ram x.answer parts
+placed_outcome (Clears at) t x parts = clear_outcome t x.windows x.ram parts
 placed_outcome (Touches at) t x parts = Goes (registers t)
 placed_outcome Nothing t x parts = Goes (registers t)
 
@@ -119,8 +120,7 @@ placed_outcome Nothing t x parts = Goes (registers t)
 -- anything moves.
 abbrev pub deed_outcome : Deed → Thread → Around → Outcome After
 deed_outcome deed t x =
-    if is_misaligned deed then Takes (Alignment (address_in deed))
-    else and_then (places_of x.founds) (λ places. placed_outcome deed t x (laid (parts_in deed) places))
+    if is_misaligned deed then Takes (Alignment (address_in deed)) else and_then (laid (parts_in deed) x.founds) (placed_outcome deed t x)
 
 -- what a form of storage comes to; it does not go on to the next instruction, which is the step's
 unfoldable pub storage_outcome : Insn → Thread → Around → Outcome After

@@ -32,10 +32,6 @@ past_caches form = record form { inhibited = true }
 abbrev pub with_reservation : AccessForm → AccessForm
 with_reservation form = record form { reserved = true }
 
--- how many bytes are moved
-abbrev pub is_size : ℕ → Bool
-is_size size = (size == 1) || (size == 2) || (size == 4) || (size == 8)
-
 -- the number of so many bytes whose bytes stand in the other order
 abbrev pub reversed_bytes : ℕ → ℕ → ℕ
 reversed_bytes size value = be_value (le_bytes size value) 0
@@ -54,4 +50,4 @@ loaded form value = extended form (ordered form value)
 
 -- the little-endian number of the bytes that a store takes from its register
 abbrev pub sent : AccessForm → ℕ → ℕ
-sent form value = ordered form (value % 2 ^ (8 * form.size))
+sent form value = ordered form (value % 256 ^ form.size)

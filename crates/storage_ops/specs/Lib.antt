@@ -6,3 +6,4 @@ pub mod Reaching
 pub mod Answering
 pub mod Checks
 pub mod Effects
+pub mod Accesses

@@ -1,5 +1,5 @@
 -- An access is cut where a page of 4 KiB ends.
-use Rattle.std.specs.Prelude.{ℕ, ◌+◌, ◌-◌, ◌%◌, ◌^◌, nat_le, if◌then◌else◌, List, [], ◌∷◌, ◌++◌, length, ◌==◌, Bool, Option, Some, None}
+use Rattle.std.specs.Prelude.{◌≡◌, ◌≤◌, ℕ, ◌+◌, ◌-◌, ◌%◌, ◌^◌, nat_le, if◌then◌else◌, List, [], ◌∷◌, ◌++◌, length, ◌==◌, Bool, Option, Some, None}
 use Rattle.journal_core.specs.Bytes.{piece}
 use Rattle.storage_ops.specs.declared.parts.Part.{Part}
 use Rattle.storage_ops.specs.declared.parts.Parts.{Parts}
@@ -26,12 +26,6 @@ listed_second (Some second) = second ∷ []
 abbrev pub listed : Parts → List Part
 listed parts = parts.first ∷ listed_second parts.second
 
--- the parts at these addresses
-abbrev pub laid : List Part → List ℕ → List Part
-laid [] places = []
-laid (p ∷ ps) [] = []
-laid (p ∷ ps) (at ∷ places) = part at p.size ∷ laid ps places
-
 -- the access is one part
 abbrev pub is_whole : List Part → Bool
 is_whole parts = length parts == 1
@@ -40,3 +34,23 @@ is_whole parts = length parts == 1
 abbrev pub bytes_in : List ℕ → List Part → List ℕ
 bytes_in ram [] = []
 bytes_in ram (p ∷ ps) = piece ram p.at p.size ++ bytes_in ram ps
+
+-- how many bytes the parts have
+abbrev pub bytes_of_second : Option Part → ℕ
+bytes_of_second None = 0
+bytes_of_second (Some second) = second.size
+
+-- the parts have so many bytes, and none is empty
+abbrev pub IsSome : Option Part → Type 0
+IsSome None = Unit {0}
+IsSome (Some second) = 1 ≤ second.size
+
+pub record AreParts (size : ℕ) (parts : Parts) : Type 0 where
+  pub first : 1 ≤ parts.first.size
+  pub second : IsSome parts.second
+  pub whole : parts.first.size + bytes_of_second parts.second ≡ size
+
+-- each part lies in so many bytes of storage
+abbrev pub AreWithin : ℕ → List Part → Type 0
+AreWithin bytes [] = Unit {0}
+AreWithin bytes (p ∷ ps) = (p.at + p.size ≤ bytes) × AreWithin bytes ps

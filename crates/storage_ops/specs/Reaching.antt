@@ -1,5 +1,5 @@
 -- The asks of an access, and what their answers come to.
-use Rattle.std.specs.Prelude.{◌≡◌, ℕ, List, [], ◌∷◌, map, if◌then◌else◌, Option, Some, None}
+use Rattle.std.specs.Prelude.{◌≡◌, ℕ, List, [], ◌∷◌, map, if◌then◌else◌, Option, Some, None, Result, Ok, Err}
 use Rattle.journal_core.specs.declared.asks.AccessKind.{AccessKind}
 use Rattle.journal_core.specs.declared.asks.Ask.{Ask}
 use Rattle.journal_core.specs.declared.asks.Found.{Found}
@@ -7,11 +7,15 @@ use Rattle.journal_core.specs.declared.asks.Found.TheVariants as founds_of
 use Rattle.journal_core.specs.declared.rows.Use.{Use}
 use Rattle.journal_core.specs.declared.rows.Use.TheVariants.{Unused}
 use Rattle.journal_core.specs.Answers.{use_of}
+use Rattle.journal_core.specs.declared.rows.StepEnd.{StepEnd}
+use Rattle.journal_core.specs.declared.rows.StepEnd.TheVariants.{Took, Stopped}
 use Rattle.form_outcomes.specs.Outcomes.{Outcome, Goes, Takes, Stops}
 use Rattle.thread_regs.specs.declared.registers.Thread.{Thread}
 use Rattle.storage_ops.specs.declared.deeds.Deed.{Deed}
 use Rattle.storage_ops.specs.declared.parts.Part.{Part}
+use Rattle.storage_ops.specs.declared.parts.Parts.{Parts}
 use Rattle.storage_ops.specs.declared.answering.Answers.{Answers}
+use Rattle.storage_ops.specs.Parts.{part}
 use Rattle.storage_ops.specs.Deeds.{parts_in, kind_in, is_misaligned}
 
 -- a thread asks for an effective address
@@ -41,12 +45,13 @@ and_then (Goes a) next = next a
 and_then (Takes cause) next = Takes cause
 and_then (Stops name value) next = Stops name value
 
--- the real addresses, or the interrupt or stop of the first answer that is none
-abbrev pub places_of : List Found → Outcome (List ℕ)
-places_of [] = Goes []
-places_of (founds_of.Real at used ∷ founds) = and_then (places_of founds) (λ places. Goes (at ∷ places))
-places_of (founds_of.Fault cause used ∷ founds) = Takes cause
-places_of (founds_of.Stop name value ∷ founds) = Stops name value
+-- the parts at the real addresses of the answers, or the interrupt or stop of the first answer that is none
+abbrev pub laid : List Part → List Found → Outcome (List Part)
+laid [] founds = Goes []
+laid (p ∷ ps) [] = Goes []
+laid (p ∷ ps) (founds_of.Real at used ∷ founds) = and_then (laid ps founds) (λ more. Goes (part at p.size ∷ more))
+laid (p ∷ ps) (founds_of.Fault cause used ∷ founds) = Takes cause
+laid (p ∷ ps) (founds_of.Stop name value ∷ founds) = Stops name value
 
 -- the uses of a row for the data of a form whose asks had these answers
 abbrev pub first_use : List Found → Use
@@ -70,3 +75,24 @@ abbrev pub next_part : Found → Option Part → Option Part
 next_part (founds_of.Real at used) second = second
 next_part (founds_of.Fault cause used) second = None
 next_part (founds_of.Stop name value) second = None
+
+-- a part by the answer to its ask: at the real address, or how the step ends
+abbrev pub PlacesPart : Part → Found → Result Part StepEnd → Type 0
+PlacesPart p (founds_of.Real at used) placed = placed ≡ Ok (part at p.size)
+PlacesPart p (founds_of.Fault cause used) placed = placed ≡ Err (Took cause)
+PlacesPart p (founds_of.Stop name value) placed = placed ≡ Err (Stopped name value)
+
+-- what does not go on ends a step so
+abbrev pub EndsAs : {A : Type 0} → Outcome A → StepEnd → Type 0
+EndsAs (Goes a) end = ⊥
+EndsAs (Takes cause) end = end ≡ Took cause
+EndsAs (Stops name value) end = end ≡ Stopped name value
+
+-- a second part behind a real address has an answer
+abbrev pub HasAnswer : Option Part → Option Found → Type 0
+HasAnswer None found = Unit {0}
+HasAnswer (Some p) (Some found) = Unit {0}
+HasAnswer (Some p) None = ⊥
+
+abbrev pub IsAllAnswered : Parts → Answers → Type 0
+IsAllAnswered parts answers = HasAnswer (next_part answers.first parts.second) answers.second

@@ -64,6 +64,7 @@ pub fn translate_parts<T: Translate, R: TableReader>(
     requires thread { T.has_thread tr.old number }
     requires fits { (values : List ℕ) × (slice_get values number ≡ Some thread.now.ptcr) × T.fits tr.old journal.old values }
     ensures answered { IsAnswered T.chooses 2 number (R.ram reader.now) (reaching.reached (reaching.asks_for thread.now kind (listed parts.now)) (reaching.founds_in result)) journal.old journal.new (reaching.founds_in result) }
+    ensures all { reaching.IsAllAnswered parts.now result }
     ensures fits { (values : List ℕ) → slice_get values number ≡ Some thread.now.ptcr → T.fits tr.old journal.old values → T.fits tr.new journal.new values }
     ensures threads { (t : ℕ) → T.has_thread tr.new t ↔ T.has_thread tr.old t }
 {

@@ -3,11 +3,16 @@
 
 mod access_table;
 mod answering;
+mod checks;
 mod deeds;
 mod forms;
+mod moving;
 mod parts;
+mod storing;
+mod accesses;
 
 pub use access_table::access_form;
+pub use accesses::{StorageOut, access};
 pub use answering::Answers;
 pub use deeds::Deed;
 pub use forms::AccessForm;

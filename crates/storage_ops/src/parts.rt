@@ -28,7 +28,8 @@ const PAGE_BYTES: u64 = 4096;
 /// highest page is 0.
 pub fn parts_of(at: u64, size: u8) -> Parts
     requires { 1 ≤ size }
-    ensures { specs_of.listed result ≡ specs_of.parts_of at size }
+    ensures parts { specs_of.listed result ≡ specs_of.parts_of at size }
+    ensures sizes { specs_of.AreParts size result }
 {
     let left = PAGE_BYTES - at % PAGE_BYTES;
     if u64::from(size) <= left {
