@@ -1,1 +1,3 @@
 pub mod AnsweringLemmas
+pub mod MovesLemmas
+pub mod AccessesLemmas

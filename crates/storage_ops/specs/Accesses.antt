@@ -1,5 +1,6 @@
 -- What an access leaves of all that it works on.
 use Rattle.std.specs.Prelude.{◌≡◌, ℕ, List, ◌++◌, length, Option}
+use Rattle.journal_core.specs.declared.asks.Ask.{Ask}
 use Rattle.journal_core.specs.declared.asks.Found.{Found}
 use Rattle.journal_core.specs.declared.rows.WriteRow.{WriteRow}
 use Rattle.journal_core.specs.declared.rows.DeviceRow.{DeviceRow}
@@ -51,16 +52,25 @@ pub record Carries {P : Type 0} (related : P → DeviceRow → P → Type 0) (wi
   pub carried : IsCarried related windows number (λ answer. behind (outcome answer) old.thread) old new
   pub ended : end ≡ end_with carried.devices (end_of (outcome (answer_in carried.devices)))
 
+-- What is done for some asks, which the thread of this number makes in their order, and for an outcome by their answers and by the
+-- value that a device gives: the asks are answered; behind these answers there is the outcome, and what stands behind it is
+-- carried out. The uses show the answers.
+pub record Performs {P : Type 0} (chooses : Query → Found → Mark → Type 0) (related : P → DeviceRow → P → Type 0) (windows : P → List (Option Window)) (number : ℕ) (asks : List Found → List Ask) (outcome : List Found → ℕ → Outcome After) (old new : Scene P) (out : StorageOut) : Type 0 where
+  pub founds : List Found
+  pub between : JournalView
+  pub answered : IsAnswered chooses 2 number old.ram (asks founds) old.journal between founds
+  pub carries : Carries related windows number (outcome founds) (record old { journal = between }) new out.end
+  pub first : out.first ≡ first_use founds
+  pub second : out.second ≡ second_use founds
+
+-- the asks of a form of storage that are reached where they are answered so
+abbrev pub asks_in : Insn → Thread → List Found → List Ask
+asks_in i t founds = reached (asks_of (deed_of i t) t) founds
+
 -- what a form of storage comes to in a scene, by the answers to its asks and by the value that a device gives
 abbrev pub outcome_in : {P : Type 0} → (P → List (Option Window)) → Insn → Scene P → List Found → ℕ → Outcome After
 outcome_in windows i old founds answer = storage_outcome i old.thread (around (windows old.port) old.ram founds answer)
 
--- An access of the thread of this number. Its asks are answered in their order, up to the first answer that is no real address;
--- behind these answers the form comes to its outcome, and what stands behind it is carried out. The uses show the answers.
-pub record IsAccess {P : Type 0} (chooses : Query → Found → Mark → Type 0) (related : P → DeviceRow → P → Type 0) (windows : P → List (Option Window)) (number : ℕ) (i : Insn) (old new : Scene P) (out : StorageOut) : Type 0 where
-  pub founds : List Found
-  pub between : JournalView
-  pub answered : IsAnswered chooses 2 number old.ram (reached (asks_of (deed_of i old.thread) old.thread) founds) old.journal between founds
-  pub carries : Carries related windows number (outcome_in windows i old founds) (record old { journal = between }) new out.end
-  pub first : out.first ≡ first_use founds
-  pub second : out.second ≡ second_use founds
+-- an access of a form in the thread of this number
+abbrev pub IsAccess : {P : Type 0} → (Query → Found → Mark → Type 0) → (P → DeviceRow → P → Type 0) → (P → List (Option Window)) → ℕ → Insn → Scene P → Scene P → StorageOut → Type 0
+IsAccess chooses related windows number i old new out = Performs chooses related windows number (asks_in i old.thread) (outcome_in windows i old) old new out

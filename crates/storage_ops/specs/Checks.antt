@@ -1,5 +1,7 @@
 -- Which parts of an access are refused, where they lie in real storage.
-use Rattle.std.specs.Prelude.{ℕ, ◌+◌, nat_le, ◌&&◌, if◌then◌else◌, Bool, true, false, List, [], ◌∷◌, Option, Some, None}
+use Rattle.std.specs.Prelude.{◌≡◌, ℕ, ◌+◌, nat_le, ◌&&◌, if◌then◌else◌, Bool, true, false, List, [], ◌∷◌, Option, Some, None}
+use Rattle.journal_core.specs.declared.rows.Signal.{Signal}
+use Rattle.journal_core.specs.declared.rows.Signal.TheVariants.{Quiet, Byte, Stop, Eject}
 use Rattle.journal_core.specs.declared.rows.StopName.{StopName}
 use Rattle.journal_core.specs.declared.rows.StopName.TheVariants.{NoStorage, DeviceAccess}
 use Rattle.form_outcomes.specs.Outcomes.{Outcome, Stops}
@@ -38,3 +40,10 @@ abbrev pub device_of : List (Option Window) → List Part → Option (ℕ × ℕ
 device_of windows [] = None
 device_of windows (p ∷ []) = window_at windows p.at
 device_of windows (p ∷ (q ∷ ps)) = None
+
+-- a port without the device that a signal ejects; no other signal changes it
+abbrev pub Ejects : {P : Type 0} → (P → ℕ → P → Type 0) → Signal → P → P → Type 0
+Ejects empties (Eject slot) old new = empties old slot new
+Ejects empties Quiet old new = new ≡ old
+Ejects empties (Byte b) old new = new ≡ old
+Ejects empties Stop old new = new ≡ old

@@ -13,6 +13,7 @@ use Rattle.storage_ops.specs.declared.forms.AccessForm.{AccessForm}
 use Rattle.storage_ops.specs.declared.deeds.Deed.{Deed}
 use Rattle.storage_ops.specs.declared.deeds.Deed.TheVariants.{Moves, Clears, Touches, Nothing}
 use Rattle.storage_ops.specs.declared.parts.Part.{Part}
+use Rattle.storage_ops.specs.declared.parts.Parts.{Parts}
 use Rattle.ppc_bus.specs.Holding.{is_size}
 use Rattle.storage_ops.specs.AccessTable.{access_form}
 use Rattle.storage_ops.specs.Parts.{part, parts_of}
@@ -101,3 +102,22 @@ kind_in (Moves form register base at) = kind_of form
 kind_in (Clears at) = Store
 kind_in (Touches at) = Load
 kind_in Nothing = Load
+
+-- how many bytes are accessed
+abbrev pub size_in : Deed → ℕ
+size_in (Moves form register base at) = form.size
+size_in (Clears at) = 128
+size_in (Touches at) = 1
+size_in Nothing = 0
+
+-- a cache block is one part
+abbrev pub IsWhole : Deed → Parts → Type 0
+IsWhole (Moves form register base at) parts = Unit {0}
+IsWhole (Clears at) parts = parts.second ≡ None
+IsWhole (Touches at) parts = Unit {0}
+IsWhole Nothing parts = Unit {0}
+
+-- a deed without parts does nothing
+abbrev pub IsIdle : Deed → Option Parts → Type 0
+IsIdle deed None = deed ≡ Nothing
+IsIdle deed (Some parts) = Unit {0}

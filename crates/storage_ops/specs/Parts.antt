@@ -54,3 +54,8 @@ pub record AreParts (size : ℕ) (parts : Parts) : Type 0 where
 abbrev pub AreWithin : ℕ → List Part → Type 0
 AreWithin bytes [] = Unit {0}
 AreWithin bytes (p ∷ ps) = (p.at + p.size ≤ bytes) × AreWithin bytes ps
+
+-- the parts, where there are some
+abbrev pub listed_parts : Option Parts → List Part
+listed_parts None = []
+listed_parts (Some parts) = listed parts

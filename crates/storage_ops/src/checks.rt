@@ -1,6 +1,6 @@
 //! Where the parts of an access lie in real storage, and which of them are refused.
 
-ghost use Rattle.std.specs.Prelude.{◌≡◌, ℕ, IfOk, IfErr, length};
+ghost use Rattle.std.specs.Prelude.{◌≡◌, ℕ, None, IfOk, IfErr, length};
 ghost use Rattle.ppc_bus.specs.Holding.{is_access};
 ghost use Rattle.form_outcomes.specs.Outcomes.{Goes};
 ghost use Rattle.storage_ops.specs.Parts.{listed, AreParts};
@@ -31,6 +31,7 @@ pub fn place_parts(parts: &Parts, answers: &Answers) -> Result<Parts, StepEnd>
     ensures ok { IfOk result (λ real. reaching.laid (listed parts.now) (reaching.founds_in answers.now) ≡ Goes (listed real)) }
     ensures err { IfErr result (λ end. reaching.EndsAs (reaching.laid (listed parts.now) (reaching.founds_in answers.now)) end) }
     ensures sizes { IfOk result (λ real. (size : ℕ) → reaching.IsAllAnswered parts.now answers.now → AreParts size parts.now → AreParts size real) }
+    ensures whole { IfOk result (λ real. parts.now.second ≡ None → real.second ≡ None) }
 {
     let first = place_part(parts.first, answers.first)?;
     let (part, found) = match (parts.second, answers.second) {

@@ -21,6 +21,15 @@ pub struct Parts {
     pub second: Option<Part>,
 }
 
+impl Parts {
+    /// Whether the access is one part.
+    pub fn is_whole(&self) -> bool
+        ensures { result ≡ specs_of.is_whole (specs_of.listed self.now) }
+    {
+        self.second.is_none()
+    }
+}
+
 /// The size of a page, at whose end an access is cut.
 const PAGE_BYTES: u64 = 4096;
 
