@@ -1,20 +1,13 @@
--- What each form comes to in a thread, unit by unit.
-use Rattle.std.specs.Prelude.{ℕ, Bool, true, false, if◌then◌else◌}
+-- What each form of registers comes to in a thread, unit by unit.
+use Rattle.std.specs.Prelude.{ℕ, Bool, true, false}
 use Rattle.ppc_bits.specs.Addresses.{next_address}
 use Rattle.thread_regs.specs.declared.registers.Thread.{Thread}
 use Rattle.thread_regs.specs.Registers.{gpr, advanced}
-use Rattle.ppc_ops.specs.declared.op.Op.{Op}
 use Rattle.ppc_ops.specs.declared.insn.Insn.{Insn}
 use Rattle.ppc_ops.specs.declared.insn.Insn.TheVariants.{AddImm, AddPc, Arith, MulHigh, Modulo, MulAdd, LogicImm, Logic, Unary, Count, Bytes, ShiftImm, RotWord, RotDouble, Select, CmpImm, Cmp, CmpByte, SetB, TrapImm, Trap, Jump, Branch, BranchReg, CrBit, CrMove, MoveXer, MfCr, MfOneCr, MtCr, MtOneCr, Access, AccessX, Block, MfSpr, MtSpr, MfTb, MfMsr, MtMsr, Sync, Eieio, TlbSync, Inval, Message, Isync, Rfid, Hrfid, Sc}
-use Rattle.ppc_ops.specs.Classes.{inhibits_caching}
-use Rattle.word_decoder.specs.declared.decoded.Decoded.{Decoded}
-use Rattle.word_decoder.specs.declared.decoded.Decoded.TheVariants.{Form, Zero, InvalidForm, Unsupported}
-use Rattle.word_decoder.specs.Decode.{decoded_of}
-use Rattle.journal_core.specs.declared.rows.StopName.TheVariants as stops
 use Rattle.branch_unit.specs.Trap.{trap_of}
-use Rattle.form_outcomes.specs.Outcomes.{Outcome, Goes, Takes, Stops, unless, unsupported}
-use Rattle.form_outcomes.specs.Programs.{trap, assist}
-use Rattle.system_ops.specs.Refusals.{hypervisor_only}
+use Rattle.form_outcomes.specs.Outcomes.{Outcome, Goes, Takes, unsupported}
+use Rattle.form_outcomes.specs.Programs.{trap}
 use Rattle.system_ops.specs.System.{outcome_of as system_outcome}
 use Rattle.ppc_step.specs.FixedPoint.{base, turning, arith_effect, logic_effect}
 use Rattle.ppc_step.specs.Branching.{branch_effect}
@@ -25,68 +18,54 @@ abbrev pub trapped : Bool → Thread → Outcome Thread
 trapped true t = Takes trap
 trapped false t = Goes (advanced t)
 
--- loads and stores are not executed yet; those that inhibit caching are first refused outside hypervisor state
-abbrev pub access_outcome : Op → ℕ → Thread → Outcome Thread
-access_outcome op word t = if inhibits_caching op then unless (hypervisor_only word t.msr) (unsupported word) else unsupported word
-
--- what the form of this word comes to in a thread with these registers
-unfoldable pub form_outcome : Insn → ℕ → Thread → Outcome Thread
-form_outcome (AddImm op rt ra si) word t = Goes (arith_effect (AddImm op rt ra si) rt (base op ra t) 0 0 t)
-form_outcome (AddPc rt d) word t = Goes (arith_effect (AddPc rt d) rt (next_address t.nia) 0 0 t)
-form_outcome (Arith op rt ra rb oe rc) word t = Goes (arith_effect (Arith op rt ra rb oe rc) rt (gpr t ra) (gpr t rb) 0 t)
-form_outcome (MulHigh op rt ra rb rc) word t = Goes (arith_effect (MulHigh op rt ra rb rc) rt (gpr t ra) (gpr t rb) 0 t)
-form_outcome (Modulo op rt ra rb) word t = Goes (arith_effect (Modulo op rt ra rb) rt (gpr t ra) (gpr t rb) 0 t)
-form_outcome (MulAdd op rt ra rb third) word t = Goes (arith_effect (MulAdd op rt ra rb third) rt (gpr t ra) (gpr t rb) (gpr t third) t)
-form_outcome (LogicImm op ra rs ui) word t = Goes (logic_effect (LogicImm op ra rs ui) ra (gpr t rs) 0 t)
-form_outcome (Logic op ra rs rb rc) word t = Goes (logic_effect (Logic op ra rs rb rc) ra (gpr t rs) (gpr t rb) t)
-form_outcome (Unary op ra rs rc) word t = Goes (logic_effect (Unary op ra rs rc) ra (gpr t rs) 0 t)
-form_outcome (Count op ra rs) word t = Goes (logic_effect (Count op ra rs) ra (gpr t rs) 0 t)
-form_outcome (Bytes op ra rs rb) word t = Goes (logic_effect (Bytes op ra rs rb) ra (gpr t rs) (gpr t rb) t)
-form_outcome (ShiftImm op ra rs sh rc) word t = Goes (logic_effect (ShiftImm op ra rs sh rc) ra (gpr t rs) 0 t)
-form_outcome (RotWord op ra rs by mb me rc) word t = Goes (logic_effect (RotWord op ra rs by mb me rc) ra (gpr t rs) (gpr t by) t)
-form_outcome (RotDouble op ra rs by edge rc) word t = Goes (logic_effect (RotDouble op ra rs by edge rc) ra (gpr t rs) (turning op by t) t)
-form_outcome (Select rt ra rb bit) word t = Goes (select_effect (Select rt ra rb bit) rt (gpr_or_zero ra t) (gpr t rb) t)
-form_outcome (SetB rt bfa) word t = Goes (select_effect (SetB rt bfa) rt 0 0 t)
-form_outcome (MfCr rt) word t = Goes (select_effect (MfCr rt) rt 0 0 t)
-form_outcome (MfOneCr rt fxm) word t = Goes (select_effect (MfOneCr rt fxm) rt 0 0 t)
-form_outcome (CmpImm op bf wide ra value) word t = Goes (compare_effect (CmpImm op bf wide ra value) bf (gpr t ra) 0 t)
-form_outcome (Cmp op bf wide ra rb) word t = Goes (compare_effect (Cmp op bf wide ra rb) bf (gpr t ra) (gpr t rb) t)
-form_outcome (CmpByte op bf two ra rb) word t = Goes (compare_effect (CmpByte op bf two ra rb) bf (gpr t ra) (gpr t rb) t)
-form_outcome (CrBit op bt ba bb) word t = Goes (cr_effect (CrBit op bt ba bb) t)
-form_outcome (CrMove bf bfa) word t = Goes (cr_effect (CrMove bf bfa) t)
-form_outcome (MoveXer bf) word t = Goes (cr_effect (MoveXer bf) t)
-form_outcome (MtCr rs fxm) word t = Goes (fields_effect fxm rs t)
-form_outcome (MtOneCr rs fxm) word t = Goes (fields_effect fxm rs t)
-form_outcome (Jump li aa lk) word t = Goes (branch_effect (Jump li aa lk) t)
-form_outcome (Branch bo bi bd aa lk) word t = Goes (branch_effect (Branch bo bi bd aa lk) t)
-form_outcome (BranchReg op bo bi lk) word t = Goes (branch_effect (BranchReg op bo bi lk) t)
-form_outcome (TrapImm op to ra si) word t = trapped (trap_of (TrapImm op to ra si) (gpr t ra) 0) t
-form_outcome (Trap op to ra rb) word t = trapped (trap_of (Trap op to ra rb) (gpr t ra) (gpr t rb)) t
-form_outcome (Access op rt ra disp) word t = unsupported word
-form_outcome (AccessX op rt ra rb) word t = access_outcome op word t
-form_outcome (Block op ra rb) word t = unsupported word
-form_outcome (MfSpr rt spr) word t = system_outcome (MfSpr rt spr) word t
-form_outcome (MtSpr rs spr) word t = system_outcome (MtSpr rs spr) word t
-form_outcome (MfTb rt spr) word t = system_outcome (MfTb rt spr) word t
-form_outcome (MfMsr rt) word t = system_outcome (MfMsr rt) word t
-form_outcome (MtMsr op rs l) word t = system_outcome (MtMsr op rs l) word t
-form_outcome (Sync l) word t = system_outcome (Sync l) word t
-form_outcome Eieio word t = system_outcome Eieio word t
-form_outcome TlbSync word t = system_outcome TlbSync word t
-form_outcome (Inval op rb rs ric prs r) word t = system_outcome (Inval op rb rs ric prs r) word t
-form_outcome (Message op rb) word t = system_outcome (Message op rb) word t
-form_outcome Isync word t = system_outcome Isync word t
-form_outcome Rfid word t = system_outcome Rfid word t
-form_outcome Hrfid word t = system_outcome Hrfid word t
-form_outcome (Sc lev) word t = system_outcome (Sc lev) word t
-
--- a word of zeros is left to the hypervisor; what is no form stops the machine with the word
-unfoldable pub decoded_outcome : Decoded → ℕ → Thread → Outcome Thread
-decoded_outcome (Form insn) word t = form_outcome insn word t
-decoded_outcome Zero word t = Takes (assist word)
-decoded_outcome (InvalidForm op) word t = Stops stops.InvalidForm word
-decoded_outcome Unsupported word t = unsupported word
-
--- what a word comes to
-unfoldable pub word_outcome : ℕ → Thread → Outcome Thread
-word_outcome word t = decoded_outcome (decoded_of word) word t
+-- What a form that works on registers alone comes to in a thread with these registers. The lines of loads, stores and cache blocks
+-- say nothing of these forms, whose outcome goes by more than registers (`form_outcome`).
+unfoldable pub thread_outcome : Insn → ℕ → Thread → Outcome Thread
+thread_outcome (AddImm op rt ra si) word t = Goes (arith_effect (AddImm op rt ra si) rt (base op ra t) 0 0 t)
+thread_outcome (AddPc rt d) word t = Goes (arith_effect (AddPc rt d) rt (next_address t.nia) 0 0 t)
+thread_outcome (Arith op rt ra rb oe rc) word t = Goes (arith_effect (Arith op rt ra rb oe rc) rt (gpr t ra) (gpr t rb) 0 t)
+thread_outcome (MulHigh op rt ra rb rc) word t = Goes (arith_effect (MulHigh op rt ra rb rc) rt (gpr t ra) (gpr t rb) 0 t)
+thread_outcome (Modulo op rt ra rb) word t = Goes (arith_effect (Modulo op rt ra rb) rt (gpr t ra) (gpr t rb) 0 t)
+thread_outcome (MulAdd op rt ra rb third) word t = Goes (arith_effect (MulAdd op rt ra rb third) rt (gpr t ra) (gpr t rb) (gpr t third) t)
+thread_outcome (LogicImm op ra rs ui) word t = Goes (logic_effect (LogicImm op ra rs ui) ra (gpr t rs) 0 t)
+thread_outcome (Logic op ra rs rb rc) word t = Goes (logic_effect (Logic op ra rs rb rc) ra (gpr t rs) (gpr t rb) t)
+thread_outcome (Unary op ra rs rc) word t = Goes (logic_effect (Unary op ra rs rc) ra (gpr t rs) 0 t)
+thread_outcome (Count op ra rs) word t = Goes (logic_effect (Count op ra rs) ra (gpr t rs) 0 t)
+thread_outcome (Bytes op ra rs rb) word t = Goes (logic_effect (Bytes op ra rs rb) ra (gpr t rs) (gpr t rb) t)
+thread_outcome (ShiftImm op ra rs sh rc) word t = Goes (logic_effect (ShiftImm op ra rs sh rc) ra (gpr t rs) 0 t)
+thread_outcome (RotWord op ra rs by mb me rc) word t = Goes (logic_effect (RotWord op ra rs by mb me rc) ra (gpr t rs) (gpr t by) t)
+thread_outcome (RotDouble op ra rs by edge rc) word t = Goes (logic_effect (RotDouble op ra rs by edge rc) ra (gpr t rs) (turning op by t) t)
+thread_outcome (Select rt ra rb bit) word t = Goes (select_effect (Select rt ra rb bit) rt (gpr_or_zero ra t) (gpr t rb) t)
+thread_outcome (SetB rt bfa) word t = Goes (select_effect (SetB rt bfa) rt 0 0 t)
+thread_outcome (MfCr rt) word t = Goes (select_effect (MfCr rt) rt 0 0 t)
+thread_outcome (MfOneCr rt fxm) word t = Goes (select_effect (MfOneCr rt fxm) rt 0 0 t)
+thread_outcome (CmpImm op bf wide ra value) word t = Goes (compare_effect (CmpImm op bf wide ra value) bf (gpr t ra) 0 t)
+thread_outcome (Cmp op bf wide ra rb) word t = Goes (compare_effect (Cmp op bf wide ra rb) bf (gpr t ra) (gpr t rb) t)
+thread_outcome (CmpByte op bf two ra rb) word t = Goes (compare_effect (CmpByte op bf two ra rb) bf (gpr t ra) (gpr t rb) t)
+thread_outcome (CrBit op bt ba bb) word t = Goes (cr_effect (CrBit op bt ba bb) t)
+thread_outcome (CrMove bf bfa) word t = Goes (cr_effect (CrMove bf bfa) t)
+thread_outcome (MoveXer bf) word t = Goes (cr_effect (MoveXer bf) t)
+thread_outcome (MtCr rs fxm) word t = Goes (fields_effect fxm rs t)
+thread_outcome (MtOneCr rs fxm) word t = Goes (fields_effect fxm rs t)
+thread_outcome (Jump li aa lk) word t = Goes (branch_effect (Jump li aa lk) t)
+thread_outcome (Branch bo bi bd aa lk) word t = Goes (branch_effect (Branch bo bi bd aa lk) t)
+thread_outcome (BranchReg op bo bi lk) word t = Goes (branch_effect (BranchReg op bo bi lk) t)
+thread_outcome (TrapImm op to ra si) word t = trapped (trap_of (TrapImm op to ra si) (gpr t ra) 0) t
+thread_outcome (Trap op to ra rb) word t = trapped (trap_of (Trap op to ra rb) (gpr t ra) (gpr t rb)) t
+thread_outcome (Access op rt ra disp) word t = unsupported word
+thread_outcome (AccessX op rt ra rb) word t = unsupported word
+thread_outcome (Block op ra rb) word t = unsupported word
+thread_outcome (MfSpr rt spr) word t = system_outcome (MfSpr rt spr) word t
+thread_outcome (MtSpr rs spr) word t = system_outcome (MtSpr rs spr) word t
+thread_outcome (MfTb rt spr) word t = system_outcome (MfTb rt spr) word t
+thread_outcome (MfMsr rt) word t = system_outcome (MfMsr rt) word t
+thread_outcome (MtMsr op rs l) word t = system_outcome (MtMsr op rs l) word t
+thread_outcome (Sync l) word t = system_outcome (Sync l) word t
+thread_outcome Eieio word t = system_outcome Eieio word t
+thread_outcome TlbSync word t = system_outcome TlbSync word t
+thread_outcome (Inval op rb rs ric prs r) word t = system_outcome (Inval op rb rs ric prs r) word t
+thread_outcome (Message op rb) word t = system_outcome (Message op rb) word t
+thread_outcome Isync word t = system_outcome Isync word t
+thread_outcome Rfid word t = system_outcome Rfid word t
+thread_outcome Hrfid word t = system_outcome Hrfid word t
+thread_outcome (Sc lev) word t = system_outcome (Sc lev) word t

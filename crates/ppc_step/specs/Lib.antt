@@ -2,8 +2,8 @@ pub mod FixedPoint
 pub mod Branching
 pub mod Conditions
 pub mod Effects
+pub mod Words
 pub mod Steps
 pub mod States
-pub mod Beginnings
 pub mod Rule
 pub mod Soundness
