@@ -1,1 +1,3 @@
 pub mod AnsweringLemmas
+pub mod MovingLemmas
+pub mod StoringLemmas
