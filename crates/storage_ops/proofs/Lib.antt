@@ -1,3 +1,5 @@
 pub mod AnsweringLemmas
+pub mod MovingLemmas
+pub mod StoringLemmas
 pub mod MovesLemmas
 pub mod AccessesLemmas

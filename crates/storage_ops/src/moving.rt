@@ -1,22 +1,11 @@
-//! Moving bytes between registers, RAM and devices.
+//! The numbers that loads and stores move.
 
-ghost use Rattle.std.specs.Prelude.{◌≡◌, ℕ, ◌<◌, ◌≤◌, ◌*◌, ◌%◌, ◌^◌, length, true, Some};
-ghost use Rattle.journal_core.specs.Bytes.{le_value};
-ghost use Rattle.journal_core.specs.Past.{ram_after};
-ghost use Rattle.journal_core.specs.Room.{write_places, device_places};
-ghost use Rattle.journal_core.specs.Steps.{add_device};
-ghost use Rattle.ppc_bus.specs.Devices.{load_row, store_row};
-ghost use Rattle.ppc_bus.specs.Holding.{window_at, is_size, is_access};
+ghost use Rattle.std.specs.Prelude.{◌≡◌, ◌<◌, ◌%◌, ◌^◌, true};
+ghost use Rattle.ppc_bus.specs.Holding.{is_size};
 ghost use Rattle.storage_ops.specs.Forms as forms;
-ghost use Rattle.storage_ops.specs.Effects.{split, writes_of, windows_by};
-ghost use Rattle.storage_ops.specs.Accesses.{with_writes};
 
 use crate::forms::AccessForm;
-use crate::parts::{Part, Parts};
-use journal_core::{DeviceRow, Journal, Signal};
 use ppc_bits::sign_extend;
-use ppc_bus::Port;
-use real_store::Store;
 
 /// The number of 2 bytes whose bytes stand in the other order.
 #[tactic(auto, unfolding(journal_core::specs::Bytes::le_bytes, journal_core::specs::Bytes::be_value))]

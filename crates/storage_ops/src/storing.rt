@@ -1,6 +1,6 @@
 //! Bytes in RAM, part after part.
 
-ghost use Rattle.std.specs.Prelude.{◌≡◌, ℕ, ◌<◌, ◌≤◌, ◌+◌, ◌*◌, ◌/◌, ◌%◌, ◌^◌, length};
+ghost use Rattle.std.specs.Prelude.{◌≡◌, ◌<◌, ◌≤◌, ◌+◌, ◌*◌, ◌^◌, length};
 ghost use Rattle.journal_core.specs.Bytes.{le_value, piece};
 ghost use Rattle.journal_core.specs.Past.{ram_after, write_row, written};
 ghost use Rattle.journal_core.specs.Room.{write_places};
@@ -59,7 +59,10 @@ pub fn load_parts(store: &Store, parts: &Parts, size: u8) -> u64
     match parts.second {
         None => first,
         Some(second) => joined(
-            first, parts.first.size, load_part(store, second), second.size,
+            first,
+            parts.first.size,
+            load_part(store, second),
+            second.size,
         ),
     }
 }
@@ -137,6 +140,7 @@ pub fn clear_doublewords(
         return;
     }
     store_part(store, journal, number, moment, Part { at, size: 8 }, 0);
+    // Its contract says that RAM has no byte at the highest addresses, so that the next address is a number.
     let _ = store.size();
     clear_doublewords(store, journal, number, moment, at + 8, count - 1);
 }
