@@ -1,3 +1,1 @@
-pub mod FormLemmas
-pub mod OtherThreads
-pub mod SoundLemmas
+pub mod StepLemmas

@@ -5,5 +5,6 @@ pub mod Effects
 pub mod Words
 pub mod Steps
 pub mod States
+pub mod Performing
 pub mod Rule
 pub mod Soundness

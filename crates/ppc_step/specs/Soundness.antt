@@ -1,8 +1,9 @@
 -- The invariant of states, and what each step keeps.
-use Rattle.std.specs.Prelude.{◌≡◌, ◌≢◌, ℕ, ◌<◌, ◌≤◌, List, length}
+use Rattle.std.specs.Prelude.{◌≡◌, ◌≢◌, ℕ, ◌<◌, ◌≤◌, List, length, Option}
 use Rattle.journal_core.specs.Rows.{Rows}
 use Rattle.journal_core.specs.Steps.{StepRows}
 use Rattle.journal_core.specs.Runs.{PastStep}
+use Rattle.ppc_bus.specs.Windows.{Window}
 use Rattle.thread_regs.specs.declared.registers.Thread.{Thread}
 use Rattle.thread_regs.specs.Registers.{thread_at, all_reset}
 use Rattle.thread_regs.specs.Soundness.{AreSound}
@@ -18,12 +19,12 @@ pub record IsSound (s : State) : Type 0 where
 
 -- a reset state of one to four threads is sound
 abbrev pub ResetIsSound : Type 0
-ResetIsSound = (count entry : ℕ) (ram : List ℕ) → 1 ≤ count → count ≤ 4 → IsSound (state_of (all_reset count entry) ram)
+ResetIsSound = (count entry : ℕ) (ram : List ℕ) (windows : List (Option Window)) → 1 ≤ count → count ≤ 4 → IsSound (state_of (all_reset count entry) ram windows)
 
 -- the state after a step that keeps the rule is sound where the one before it is
 abbrev pub StepsStaySound : Type 0
-StepsStaySound = (start : State) (before : Rows) (past : List (PastStep State)) (s : State) (own : StepRows) →
-    IsSound s → KeepsRule start before past s own → IsSound (next_state s own)
+StepsStaySound = (start : State) (before : Rows) (made : List (PastStep State)) (s : State) (own : StepRows) →
+    IsSound s → KeepsRule start before made s own → IsSound (next_state s own)
 
 -- so each state of a lawful run from a sound state is sound
 abbrev pub RunsStaySound : Type 0

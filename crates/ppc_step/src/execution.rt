@@ -3,9 +3,8 @@
 ghost use Rattle.std.specs.Prelude.{◌≡◌, ◌<◌};
 ghost use Rattle.ppc_ops.specs.Forms.{IsForm};
 ghost use Rattle.form_outcomes.specs.Outcomes.{ComesTo};
-ghost use Rattle.ppc_step.specs.Effects.{form_outcome};
+ghost use Rattle.ppc_step.specs.Effects.{thread_outcome};
 
-use crate::accesses::execute_access;
 use crate::branching::{execute_branch, execute_trap};
 use crate::conditions::{
     execute_compare, execute_cr_logic, execute_fields, execute_select, gpr_or_zero,
@@ -18,13 +17,13 @@ use ppc_ops::Insn;
 use system_ops::system;
 use thread_regs::Thread;
 
-/// Executes the form of this word in a thread of this number: the arm of its layout names its unit and the registers that the
+/// Executes a form that works on registers alone, of this word and in a thread of this number: the arm of its layout names its unit and the registers that the
 /// unit works on. An interrupt that the form takes is not delivered here, and changes no register yet.
-#[tactic(auto, unfolding(crate::specs::Effects::form_outcome))]
+#[tactic(auto, unfolding(crate::specs::Effects::thread_outcome))]
 pub fn execute(thread: &mut Thread, insn: Insn, number: u8, word: u32) -> StepEnd
     requires form { IsForm insn }
     requires number { number < 4 }
-    ensures { ComesTo (form_outcome insn word thread.old) thread.old thread.new result }
+    ensures { ComesTo (thread_outcome insn word thread.old) thread.old thread.new result }
 {
     match insn {
         // sums, products and quotients
@@ -86,9 +85,8 @@ pub fn execute(thread: &mut Thread, insn: Insn, number: u8, word: u32) -> StepEn
         }
         Insn::TrapImm { ra, .. } => execute_trap(thread, &insn, thread.gpr(ra), 0),
         Insn::Trap { ra, rb, .. } => execute_trap(thread, &insn, thread.gpr(ra), thread.gpr(rb)),
-        // loads and stores, which are not executed
-        Insn::Access { .. } | Insn::Block { .. } => unsupported(word),
-        Insn::AccessX { op, .. } => execute_access(thread, op, word),
+        // loads, stores and cache blocks work on more than registers
+        Insn::Access { .. } | Insn::AccessX { .. } | Insn::Block { .. } => unsupported(word),
         // system forms
         Insn::MfSpr { .. }
         | Insn::MtSpr { .. }

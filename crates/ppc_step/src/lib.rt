@@ -1,22 +1,12 @@
 //! One step of a thread: its word, what the word's form does, the interrupt that it takes, and the clock.
 #![tactic(auto)]
 
-mod accesses;
-mod beginning;
 mod branching;
 mod conditions;
 mod execution;
 mod fixed_point;
-mod laws;
+
 mod stepping;
+mod storage;
 mod words;
 
-pub use beginning::{Beginning, begin};
-pub use laws::{
-    a_reset_state_is_sound, a_run_keeps_states_sound, a_step_keeps_other_threads,
-    a_step_keeps_states_sound,
-};
-pub use stepping::{Parts, finish, step};
-
-#[cfg(test)]
-mod tests;
