@@ -1,1 +1,4 @@
+pub mod PlainForms
+pub mod ExecutedLemmas
+pub mod PerformingLemmas
 pub mod StepLemmas

@@ -1,7 +1,9 @@
 -- A step of a thread before its row is there.
-use Rattle.std.specs.Prelude.{◌≡◌, ℕ, List, Option}
+use Rattle.std.specs.Prelude.{◌≡◌, ℕ, Bool, true, false, if◌then◌else◌, List, [], ◌∷◌, Option}
 use Rattle.journal_core.specs.declared.asks.Found.{Found}
 use Rattle.journal_core.specs.declared.rows.DeviceRow.{DeviceRow}
+use Rattle.journal_core.specs.declared.rows.StepEnd.{StepEnd}
+use Rattle.journal_core.specs.declared.rows.StepEnd.TheVariants.{Ran, Took, Stopped}
 use Rattle.journal_core.specs.Rows.{JournalView}
 use Rattle.journal_core.specs.Turns.{Mark, Query}
 use Rattle.journal_core.specs.Answers.{uses_of}
@@ -15,7 +17,11 @@ use Rattle.storage_ops.specs.Effects.{After, around}
 use Rattle.storage_ops.specs.Accesses.{Scene, Carries, Performs}
 use Rattle.ppc_step.specs.declared.stepping.Ending.{Ending}
 use Rattle.ppc_step.specs.Words.{form_outcome, form_asks, word_outcome, word_asks}
-use Rattle.ppc_step.specs.Steps.{fetched, step_asks, step_outcome}
+use Rattle.interrupts.specs.Delivery.{delivered}
+use Rattle.interrupts.specs.Clock.{all_ticked}
+use Rattle.thread_regs.specs.declared.registers.Thread.{Thread}
+use Rattle.thread_regs.specs.Registers.{thread_at}
+use Rattle.ppc_step.specs.Steps.{fetched, step_asks, step_outcome, ticked_with}
 
 -- the form of a word is executed by the thread of this number
 abbrev pub IsExecuted : {P : Type 0} → (Query → Found → Mark → Type 0) → (P → DeviceRow → P → Type 0) → (P → List (Option Window)) → ℕ → Insn → ℕ → Scene P → Scene P → StorageOut → Type 0
@@ -36,3 +42,21 @@ pub record PerformsStep {P : Type 0} (chooses : Query → Found → Mark → Typ
   pub carries : Carries related windows number (step_outcome old.thread (windows old.port) old.ram founds) (record old { journal = between }) new e.end
   pub word : e.word ≡ fetched old.thread old.ram founds
   pub uses : e.uses ≡ uses_of founds
+
+-- a step is done by how it ends and by whether it asked a device
+abbrev pub is_done_by : StepEnd → Bool → Bool
+is_done_by Ran asked = true
+is_done_by (Took cause) asked = false
+is_done_by (Stopped name value) asked = asked
+
+-- there is a device row
+abbrev pub is_asked : List DeviceRow → Bool
+is_asked [] = false
+is_asked (row ∷ rows) = true
+
+-- the threads after a step of one that ends so and whose form has left its registers, by whether it asked a device: an interrupt
+-- is delivered to it, and every clock ticks where the step was done or took one
+abbrev pub threads_by : ℕ → List Thread → StepEnd → Bool → List Thread
+threads_by number threads Ran asked = all_ticked threads
+threads_by number threads (Took cause) asked = ticked_with number (delivered cause (thread_at threads number)) threads
+threads_by number threads (Stopped name value) asked = if asked then all_ticked threads else threads

@@ -1,5 +1,5 @@
 -- The architected state, and what a fetch finds in it.
-use Rattle.std.specs.Prelude.{ℕ, ◌+◌, nat_le, if◌then◌else◌, List, length, Option, Some, None}
+use Rattle.std.specs.Prelude.{ℕ, ◌+◌, nat_le, if◌then◌else◌, List, map, length, Option, Some, None}
 use Rattle.journal_core.specs.declared.asks.AccessKind.TheVariants.{Fetch}
 use Rattle.journal_core.specs.declared.asks.Ask.{Ask}
 use Rattle.journal_core.specs.Bytes.{le_value, piece}
@@ -24,3 +24,7 @@ fetch_ask t = ask_of t Fetch t.nia
 -- the instruction's word at a real address, where its four bytes are all in RAM
 unfoldable pub word_at : List ℕ → ℕ → Option ℕ
 word_at ram at = if nat_le (at + 4) (length ram) then Some (le_value (piece ram at 4)) else None
+
+-- the values of each thread's partition table control register
+abbrev pub ptcrs_of : List Thread → List ℕ
+ptcrs_of threads = map (λ (t : Thread). t.ptcr) threads

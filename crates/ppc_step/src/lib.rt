@@ -10,3 +10,5 @@ mod stepping;
 mod storage;
 mod words;
 
+
+pub use stepping::{Parts, Stepped, step};

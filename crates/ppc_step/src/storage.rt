@@ -12,6 +12,7 @@ ghost use Rattle.storage_ops.specs.Reaching.{reached, asks_of};
 ghost use Rattle.storage_ops.specs.Effects.{around};
 ghost use Rattle.ppc_step.specs.Words as words;
 ghost use Rattle.ppc_step.specs.Performing.{IsExecuted};
+ghost use Rattle.ppc_step.specs.Performing as performing;
 
 use crate::execution::execute;
 use form_outcomes::unsupported;
@@ -55,6 +56,17 @@ fn refusal_of(op: Op, word: u32, thread: &Thread) -> Option<Cause>
     }
 }
 
+/// Whether a step that ends so is done whole, by whether it asked a device: it ran, or a device that it asked stopped the machine.
+pub fn is_done(end: &StepEnd, asked: bool) -> bool
+    ensures { result ≡ performing.is_done_by end.now asked }
+{
+    match end {
+        StepEnd::Ran => true,
+        StepEnd::Took(_) => false,
+        StepEnd::Stopped(_, _) => asked,
+    }
+}
+
 /// A load, a store or a form of cache blocks, after which the thread goes on to the next instruction.
 fn access_on<T: Translate, B: Port>(
     insn: &Insn,
@@ -83,7 +95,8 @@ fn access_on<T: Translate, B: Port>(
 {
     let asked = journal.counts().devices;
     let out = access(insn, thread, number, tr, store, bus, journal, moment);
-    if out.end == StepEnd::Ran || journal.counts().devices > asked {
+    let more = journal.counts().devices > asked;
+    if is_done(&out.end, more) {
         thread.advance();
     }
     out
@@ -118,9 +131,8 @@ pub fn execute_form<T: Translate, B: Port>(
     ensures threads { (t : ℕ) → T.has_thread tr.new t ↔ T.has_thread tr.old t }
 {
     match insn {
-        Insn::Access { .. } | Insn::Block { .. } => {
-            access_on(&insn, thread, number, tr, store, bus, journal, moment)
-        }
+        Insn::Access { .. } => access_on(&insn, thread, number, tr, store, bus, journal, moment),
+        Insn::Block { .. } => access_on(&insn, thread, number, tr, store, bus, journal, moment),
         Insn::AccessX { op, .. } => {
             if reserves(op) {
                 return without_uses(unsupported(word));
