@@ -41,7 +41,7 @@ use Rattle.storage_ops.specs.Parts.{is_whole}
 use Rattle.storage_ops.specs.Deeds.{deed_of, is_misaligned, address_in, parts_in, reserves_by}
 use Rattle.storage_ops.specs.Reaching.{and_then, laid}
 use Rattle.storage_ops.specs.Checks.{first_refusal, unless_refused, device_of}
-use Rattle.storage_ops.specs.Effects.{After, Around, around, updated, load_after, store_after, move_after, clear_after, placed_outcome, deed_outcome, storage_outcome, behind, answer_in}
+use Rattle.storage_ops.specs.Effects.{After, Around, around, load_after, store_after, move_after, clear_after, placed_outcome, deed_outcome, storage_outcome, behind, answer_in}
 use Rattle.ppc_step.specs.Effects.{trapped, thread_outcome}
 use Rattle.ppc_step.specs.Words.{alone, onward, access_outcome, refusal_of, indexed_outcome, form_outcome, decoded_outcome, word_outcome}
 use Rattle.ppc_step.specs.States.{State}
@@ -97,34 +97,34 @@ system_keeps i word t is = record {
 -- ---- loads, stores and cache blocks
 
 -- all registers but the general purpose registers are as they were
-abbrev IsLikeBut-gpr : Thread → Thread → Type 0
-IsLikeBut-gpr t u = u ≡ record t { gpr = u.gpr }
+abbrev KeepsAllButGprs : Thread → Thread → Type 0
+KeepsAllButGprs t u = u ≡ record t { gpr = u.gpr }
 
-updated_is : (update : Bool) (base at : ℕ) (t u : Thread) → IsLikeBut-gpr t u → IsLikeBut-gpr t (if update then with_gpr u base at else u)
+updated_is : (update : Bool) (base at : ℕ) (t u : Thread) → KeepsAllButGprs t u → KeepsAllButGprs t (if update then with_gpr u base at else u)
 updated_is true base at t u is = ap (λ (x : Thread). record x { gpr = slice_set u.gpr base at }) is
 updated_is false base at t u is = is
 
-load_is : (form : AccessForm) (register base at : ℕ) (t : Thread) (ram : List ℕ) (answer : ℕ) (parts : List Part) (device : Option (ℕ × ℕ)) → IsLikeBut-gpr t (load_after form register base at t ram answer parts device).thread
+load_is : (form : AccessForm) (register base at : ℕ) (t : Thread) (ram : List ℕ) (answer : ℕ) (parts : List Part) (device : Option (ℕ × ℕ)) → KeepsAllButGprs t (load_after form register base at t ram answer parts device).thread
 load_is form register base at t ram answer parts None = updated_is form.update base at t _ refl
 load_is form register base at t ram answer parts (Some place) = updated_is form.update base at t _ refl
 
-store_is : (form : AccessForm) (register base at : ℕ) (t : Thread) (parts : List Part) (device : Option (ℕ × ℕ)) → IsLikeBut-gpr t (store_after form register base at t parts device).thread
+store_is : (form : AccessForm) (register base at : ℕ) (t : Thread) (parts : List Part) (device : Option (ℕ × ℕ)) → KeepsAllButGprs t (store_after form register base at t parts device).thread
 store_is form register base at t parts None = updated_is form.update base at t t refl
 store_is form register base at t parts (Some place) = updated_is form.update base at t t refl
 
-moved_is : (store : Bool) (t : Thread) (stored loaded : After) → IsLikeBut-gpr t stored.thread → IsLikeBut-gpr t loaded.thread → IsLikeBut-gpr t (if store then stored else loaded).thread
+moved_is : (store : Bool) (t : Thread) (stored loaded : After) → KeepsAllButGprs t stored.thread → KeepsAllButGprs t loaded.thread → KeepsAllButGprs t (if store then stored else loaded).thread
 moved_is true t stored loaded stores loads = stores
 moved_is false t stored loaded stores loads = loads
 
-clear_is : (t : Thread) (parts : List Part) → IsLikeBut-gpr t (clear_after t parts).thread
+clear_is : (t : Thread) (parts : List Part) → KeepsAllButGprs t (clear_after t parts).thread
 clear_is t [] = refl
 clear_is t (p ∷ ps) = refl
 
-unless_refused_is : (refusal : Option (StopName × ℕ)) (t : Thread) (a : After) → IsLikeBut-gpr t a.thread → IsLikeBut-gpr t (behind (unless_refused refusal (Goes a)) t).thread
+unless_refused_is : (refusal : Option (StopName × ℕ)) (t : Thread) (a : After) → KeepsAllButGprs t a.thread → KeepsAllButGprs t (behind (unless_refused refusal (Goes a)) t).thread
 unless_refused_is (Some stop) t a is = refl
 unless_refused_is None t a is = is
 
-placed_is : (deed : Deed) (t : Thread) (x : Around) (parts : List Part) → IsLikeBut-gpr t (behind (placed_outcome deed t x parts) t).thread
+placed_is : (deed : Deed) (t : Thread) (x : Around) (parts : List Part) → KeepsAllButGprs t (behind (placed_outcome deed t x parts) t).thread
 placed_is (Moves form register base at) t x parts =
     unless_refused_is (first_refusal x.windows (is_whole parts) (length x.ram) parts) t (move_after form register base at t x.windows x.ram x.answer parts)
     (moved_is form.store t (store_after form register base at t parts (device_of x.windows parts)) (load_after form register base at t x.ram x.answer parts (device_of x.windows parts))
@@ -133,21 +133,21 @@ placed_is (Clears at) t x parts = unless_refused_is (first_refusal x.windows fal
 placed_is (Touches at) t x parts = refl
 placed_is Nothing t x parts = refl
 
-laid_is : (laid_out : Outcome (List Part)) (next : List Part → Outcome After) (t : Thread) → ((parts : List Part) → IsLikeBut-gpr t (behind (next parts) t).thread) → IsLikeBut-gpr t (behind (and_then laid_out next) t).thread
+laid_is : (laid_out : Outcome (List Part)) (next : List Part → Outcome After) (t : Thread) → ((parts : List Part) → KeepsAllButGprs t (behind (next parts) t).thread) → KeepsAllButGprs t (behind (and_then laid_out next) t).thread
 laid_is (Goes parts) next t each = each parts
 laid_is (Takes cause) next t each = refl
 laid_is (Stops name value) next t each = refl
 
-aligned_is : (wrong : Bool) (cause : Cause) (outcome : Outcome After) (t : Thread) → IsLikeBut-gpr t (behind outcome t).thread → IsLikeBut-gpr t (behind (if wrong then Takes cause else outcome) t).thread
+aligned_is : (wrong : Bool) (cause : Cause) (outcome : Outcome After) (t : Thread) → KeepsAllButGprs t (behind outcome t).thread → KeepsAllButGprs t (behind (if wrong then Takes cause else outcome) t).thread
 aligned_is true cause outcome t is = refl
 aligned_is false cause outcome t is = is
 
-deed_is : (deed : Deed) (t : Thread) (x : Around) → IsLikeBut-gpr t (behind (deed_outcome deed t x) t).thread
+deed_is : (deed : Deed) (t : Thread) (x : Around) → KeepsAllButGprs t (behind (deed_outcome deed t x) t).thread
 deed_is deed t x =
     aligned_is (is_misaligned deed) (Alignment (address_in deed)) (and_then (laid (parts_in deed) x.founds) (placed_outcome deed t x)) t
     (laid_is (laid (parts_in deed) x.founds) (placed_outcome deed t x) t (λ parts. placed_is deed t x parts))
 
-onward_keeps : (outcome : Outcome After) (t : Thread) → IsSoundThread t → IsLikeBut-gpr t (behind outcome t).thread → Keeps t (behind (and_then outcome onward) t).thread
+onward_keeps : (outcome : Outcome After) (t : Thread) → IsSoundThread t → KeepsAllButGprs t (behind outcome t).thread → Keeps t (behind (and_then outcome onward) t).thread
 onward_keeps (Goes a) t is like =
     goes_on t (advanced a.thread) (ap (λ (x : Thread). x.msr.0) like) (ap (λ (x : Thread). x.lpcr) like) (ap (λ (x : Thread). x.amr) like) (ap (λ (x : Thread). x.iamr) like)
     (ap (λ (x : Thread). x.lpidr) like) (ap (λ (x : Thread). x.pidr) like) (ap (λ (x : Thread). next_address x.nia) like) (ap (λ (x : Thread). x.tb) like) is

@@ -1,5 +1,5 @@
-pub mod ShownLemmas
-pub mod StepLemmas
 pub mod FormLemmas
 pub mod OtherThreads
+pub mod ShownLemmas
 pub mod SoundLemmas
+pub mod StepLemmas

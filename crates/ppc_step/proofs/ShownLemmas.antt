@@ -1,8 +1,7 @@
 -- What the uses of a row show of the answers for data.
-use Rattle.std.proofs.Common.{◌≡◌, ℕ, ◌≤◌, ◌+◌, ◌-◌, ◌%◌, ◌^◌, nat_le, Bool, true, false, if◌then◌else◌, List, [], ◌∷◌, length, Option, Some, None, refl, ap, sym, arith}
+use Rattle.std.proofs.Common.{◌≡◌, ℕ, ◌≤◌, ◌+◌, ◌-◌, ◌%◌, ◌^◌, nat_le, Bool, true, false, if◌then◌else◌, List, [], ◌∷◌, length, Option, Some, None, refl, arith}
 use Rattle.std.specs.List.{AllByRecursion}
 use Rattle.std.proofs.lemmas.List.{length-map}
-use Rattle.journal_core.specs.declared.asks.AccessKind.{AccessKind}
 use Rattle.journal_core.specs.declared.asks.Ask.{Ask}
 use Rattle.journal_core.specs.declared.asks.Found.{Found}
 use Rattle.journal_core.specs.declared.asks.Found.TheVariants.{Real, Fault, Stop}
@@ -28,7 +27,7 @@ use Rattle.storage_ops.specs.AccessTable.{access_form}
 use Rattle.storage_ops.specs.Parts.{part, parts_of, left_in_page}
 use Rattle.storage_ops.specs.Deeds.{deed_of, is_misaligned, address_in, kind_in, parts_in, reserves_by}
 use Rattle.storage_ops.specs.Reaching.{ask_of, asks_for, asks_of, and_then, laid, first_use, second_use}
-use Rattle.storage_ops.specs.Effects.{After, Around, around, deed_outcome, placed_outcome, storage_outcome}
+use Rattle.storage_ops.specs.Effects.{After, around, deed_outcome, placed_outcome, storage_outcome}
 use Rattle.ppc_step.specs.Words.{onward, access_outcome, indexed_outcome, refusal_of, asks_unless, form_outcome, form_asks, decoded_outcome, decoded_asks, word_outcome, word_asks}
 use Rattle.ppc_step.specs.Rule.{shown_by, all_shown}
 

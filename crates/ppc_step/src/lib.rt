@@ -14,4 +14,3 @@ pub use laws::{
     a_reset_state_is_sound, a_run_keeps_states_sound, a_step_keeps_other_threads,
     a_step_keeps_states_sound,
 };
-
