@@ -5,10 +5,13 @@ mod branching;
 mod conditions;
 mod execution;
 mod fixed_point;
-
+mod laws;
 mod stepping;
 mod storage;
 mod words;
 
-
+pub use laws::{
+    a_reset_state_is_sound, a_run_keeps_states_sound, a_step_keeps_other_threads,
+    a_step_keeps_states_sound,
+};
 pub use stepping::{Parts, Stepped, step};

@@ -1,0 +1,24 @@
+//! Laws of steps.
+
+ghost use Rattle.ppc_step.specs.Soundness as soundness;
+
+/// A reset state of one to four threads is sound.
+pub fn a_reset_state_is_sound()
+    ensures { soundness.ResetIsSound }
+{}
+
+/// The state after a step that keeps the rule is sound, where the one before it is: MSR, LPCR, AMR and IAMR stay in their
+/// profiles, LPIDR and PIDR in their widths, each next address stays a multiple of 4, and all threads have one time base.
+pub fn a_step_keeps_states_sound()
+    ensures { soundness.StepsStaySound }
+{}
+
+/// Each state of a lawful run from a sound state is sound.
+pub fn a_run_keeps_states_sound()
+    ensures { soundness.RunsStaySound }
+{}
+
+/// Of all registers a step changes those of its own thread and the clocks alone.
+pub fn a_step_keeps_other_threads()
+    ensures { soundness.StepsKeepOtherThreads }
+{}
