@@ -152,7 +152,7 @@ performs_no_word chooses related windows number moment t ram port ask old mid fo
       uses = ap (λ (x : Ending). x.uses) e_is ∙ ap (λ (u : Use). u ∷ Unused ∷ Unused ∷ []) used_is;
     }
 
-uses_are : (found : Found) (data : List Found) → use_of found ∷ first_use data ∷ second_use data ∷ [] ≡ uses_of (found ∷ data)
+uses_are : (found : Found) (rest : List Found) → use_of found ∷ first_use rest ∷ second_use rest ∷ [] ≡ uses_of (found ∷ rest)
 uses_are found [] = refl
 uses_are found (a ∷ []) = refl
 uses_are found (a ∷ (b ∷ more)) = refl

@@ -128,6 +128,7 @@ fn perform<T: Translate, B: Port>(
     match fetch(store, at) {
         None => without_word(StepEnd::Stopped(StopName::NoStorage, at), used),
         Some(word) => {
+            journal.fills_are_named();
             let out = execute_word(word, thread, number, tr, store, bus, journal, moment);
             Ending {
                 word: Some(word),

@@ -58,7 +58,7 @@ returns-in-InvalidForm-clause-executed g c =
     (carries_same g.B.Port.related g.B.Port.windows c.args.number (λ answer. Stops stops.InvalidForm c.args.word) (λ answer. word_outcome c.args.word c.args.thread.now (around (g.B.Port.windows c.args.bus.now) c.args.store.now.ram [] answer)) (scene_of c.args.thread.now c.args.store.now.ram c.args.bus.now c.args.journal.now) (scene_of c.args.thread.now c.args.store.now.ram c.args.bus.now c.args.journal.now) (Stopped stops.InvalidForm c.args.word)
     (λ answer. sym (outcome_by c.args.word c.args.thread.now (around (g.B.Port.windows c.args.bus.now) c.args.store.now.ram [] answer) (InvalidForm c.in-InvalidForm.field-0) is))
     (carries_nothing g.B.Port.related g.B.Port.windows c.args.number (λ answer. Stops stops.InvalidForm c.args.word) c.args.thread.now c.args.store.now.ram c.args.bus.now c.args.journal.now (Stopped stops.InvalidForm c.args.word) refl refl))
-    c.without_uses-in-InvalidForm.ensures
+    (c.without_uses-in-InvalidForm.ensures ∙ ap (λ v. shown (Stopped stops.InvalidForm v)) c.from.ensures)
 
 pub returns-in-Unsupported-clause-executed : goal.returns-in-Unsupported-clause-executed
 unfolding decoded_asks decoded_outcome
