@@ -1,3 +1,4 @@
+pub mod ShownLemmas
 pub mod MarksLemmas
 pub mod UsesLemmas
 pub mod StepLemmas
