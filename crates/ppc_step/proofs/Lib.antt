@@ -5,4 +5,8 @@ pub mod FormLemmas
 pub mod OtherThreads
 pub mod ShownLemmas
 pub mod SoundLemmas
+pub mod MarksLemmas
+pub mod UsesLemmas
+pub mod RowsLemmas
+pub mod StateLemmas
 pub mod StepLemmas
