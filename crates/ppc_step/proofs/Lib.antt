@@ -10,3 +10,4 @@ pub mod UsesLemmas
 pub mod RowsLemmas
 pub mod StateLemmas
 pub mod StepLemmas
+pub mod ThreadsLemmas
