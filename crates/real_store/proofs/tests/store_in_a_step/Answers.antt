@@ -1,4 +1,4 @@
-use Rattle.std.proofs.Common.{◌≡◌, ◌<◌, ◌≤◌, ◌+◌, ℕ, List, length, inl, inr}
+use Rattle.std.proofs.Common.{◌≤◌, ◌+◌, length, inl, inr}
 use Rattle.std.proofs.lemmas.Bool.{cases_lt}
 use Rattle.real_store.proofs.tests.store_in_a_step.Goals as goal
 
