@@ -3,4 +3,4 @@ use Rattle.ppc_machine.specs.declared.machines.Machine.TheInside.{Inside}
 use Rattle.ppc_machine.specs.MachineView.{MachineView}
 
 abbrev pub held_of : Inside → MachineView
-held_of m = record { entry = m.entry; threads = m.components.parts.threads; store = m.components.store; journal = m.components.journal }
+held_of m = record { entry = m.entry; threads = m.components.parts.threads; store = m.components.store.ram; journal = m.components.journal }

@@ -17,7 +17,7 @@ pub record MachineView : Type 0 where
 
 -- the state that the components of a machine hold
 abbrev pub state_in : Components → State
-state_in c = state_of c.parts.threads c.store
+state_in c = state_of c.parts.threads c.store.ram
 
 -- the state that a machine is in
 abbrev pub now_of : MachineView → State

@@ -140,7 +140,7 @@ impl Machine {
 
     /// RAM.
     pub fn memory(&self) -> &Store
-        ensures { result.now ≡ self.now.store }
+        ensures { result.now.ram ≡ self.now.store }
     {
         &self.components.store
     }

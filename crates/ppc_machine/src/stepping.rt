@@ -27,7 +27,7 @@ pub struct Components {
 /// The word at a real address, where its four bytes are all in RAM.
 #[tactic(auto, unfolding(ppc_step::specs::States::word_at))]
 fn fetch(store: &Store, at: u64) -> Option<u32>
-    ensures { result ≡ word_at store.now at }
+    ensures { result ≡ word_at store.now.ram at }
 {
     match store.load(at, 4) {
         Err(_) => None,
@@ -52,7 +52,7 @@ fn without_word(thread: u8, cia: u64, end: StepEnd) -> StepRow
 #[tactic(auto, unfolding(ppc_step::specs::Rule::EndFetched))]
 fn perform_at(parts: &mut Parts, store: &Store, thread: u8, at: u64) -> StepRow
     requires { thread < length parts.old.threads }
-    ensures row { EndsAt thread (thread_at parts.old.threads thread) store.now at result }
+    ensures row { EndsAt thread (thread_at parts.old.threads thread) store.now.ram at result }
     ensures threads { parts.new.threads ≡ threads_after thread (behind result.word (thread_at parts.old.threads thread)) parts.old.threads result.end }
 {
     let cia = parts.threads.get(thread).nia();
@@ -73,7 +73,7 @@ fn perform_at(parts: &mut Parts, store: &Store, thread: u8, at: u64) -> StepRow
 /// The row of a step of a thread below the count, which it makes. A stop changes no register.
 fn perform(parts: &mut Parts, store: &Store, thread: u8) -> StepRow
     requires { thread < length parts.old.threads }
-    ensures row { EndsAs thread (thread_at parts.old.threads thread) store.now result }
+    ensures row { EndsAs thread (thread_at parts.old.threads thread) store.now.ram result }
     ensures threads { parts.new.threads ≡ threads_after thread (behind result.word (thread_at parts.old.threads thread)) parts.old.threads result.end }
 {
     let registers = parts.threads.get(thread);

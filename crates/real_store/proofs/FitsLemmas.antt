@@ -1,9 +1,8 @@
 -- Write rows that fit.
-use Rattle.std.proofs.Common.{◌≡◌, ℕ, ◌+◌, ◌^◌, ◌<◌, ◌≤◌, List, [], ◌∷◌, ◌++◌, length, refl, sym, ap, ◌∙◌, arith}
+use Rattle.std.proofs.Common.{ℕ, ◌≤◌, List, [], ◌∷◌, ◌++◌, refl, sym, ap, ◌∙◌}
 use Rattle.journal_core.specs.declared.rows.WriteRow.{WriteRow}
 use Rattle.journal_core.specs.Bytes.{IsBytes}
-use Rattle.journal_core.specs.Past.{write_row, written, ram_after, word_in, past, IsWrite, AreWrites, Fits}
-use Rattle.journal_core.specs.Steps.{InOrder}
+use Rattle.journal_core.specs.Past.{written, ram_after, word_in, IsWrite, AreWrites, Fits}
 use Rattle.journal_core.proofs.PastLemmas.{ram_after-push}
 use Rattle.journal_core.proofs.PastStays.{past-now}
 use Rattle.real_store.specs.StoreLaws.{AStoreIsAWrite, AWriteKeepsFitting, AWordIsPast}

@@ -154,7 +154,7 @@ impl Store {
         while left > 0 {
             let row = match journal.write(left - 1) {
                 Some(row) => row,
-                None => return,
+                None => unreachable!(),
             };
             if row.step < moment {
                 return;

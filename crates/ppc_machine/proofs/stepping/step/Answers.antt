@@ -24,7 +24,7 @@ returns-clause-step c =
       ended = refl;
       is_own = record { reads = tt; fills = tt; writes = tt; dones = tt; devices = tt };
       journal = c.push_step.ensures.row ∙ (rw (append-nil, append-nil, append-nil, append-nil, append-nil) refl);
-      state = rw (c.perform-row.ensures.threads, ← ends.thread) (sym (finished old.parts.threads old.store own refl));
+      state = rw (c.perform-row.ensures.threads, ← ends.thread) (sym (finished old.parts.threads old.store.ram own refl));
       rule = λ begin past run running. record {
         thread = record {
           below = rw ends.thread c.requires.thread;

@@ -1,4 +1,4 @@
-use Rattle.std.proofs.Common.{◌≡◌, length, ◌∙◌, arith}
+use Rattle.std.proofs.Common.{◌≡◌, length, arith}
 use Rattle.real_store.proofs.NumberLemmas.{two_words}
 use Rattle.real_store.proofs.numbers.number_by_size.Goals as goal
 

@@ -1,4 +1,4 @@
-use Rattle.std.proofs.Common.{◌≡◌, ◌∙◌, refl, arith}
+use Rattle.std.proofs.Common.{◌∙◌, refl, arith}
 use Rattle.real_store.proofs.NumberLemmas.{placed_first, placed_all}
 use Rattle.real_store.proofs.numbers.place_number.Goals as goal
 

@@ -1,7 +1,6 @@
-use Rattle.std.proofs.Common.{◌≡◌, ℕ, ◌-◌, ◌≤◌, ◌<◌, ◌+◌, List, [], length, take, slice_get, Some, refl, sym, ap, ◌∙◌, arith, subst}
+use Rattle.std.proofs.Common.{◌≡◌, ℕ, ◌-◌, ◌+◌, List, length, take, slice_get, Some, sym, ap, ◌∙◌, arith}
 use Rattle.std.specs.Option.{option_copied}
-use Rattle.journal_core.specs.Past.{ram_after, Fits, writes_before}
-use Rattle.journal_core.specs.declared.rows.WriteRow.{WriteRow}
+use Rattle.journal_core.specs.Past.{Fits, writes_before}
 use Rattle.journal_core.proofs.UndoLemmas.{Fits-within, Fits-back, take-write, writes_before-last, writes_before-early}
 use Rattle.real_store.proofs.FitsLemmas.{Fits-size}
 use Rattle.real_store.proofs.store.Store.undo_to.Goals as goal
