@@ -1,5 +1,9 @@
 pub mod Front
 pub mod Header
 pub mod IsImage
+pub mod Laws
 pub mod Loads
+pub mod Places
+pub mod Ranges
+pub mod Start
 pub mod Written

@@ -1,22 +1,31 @@
 //! Images of programs: what a machine loads, and the ELF files that hold it.
 #![tactic(auto)]
 
+mod address_range;
 mod bytes;
 mod fault;
 mod front;
+mod guests;
 mod headers;
 mod image;
+mod laws;
 mod layout;
+mod places;
 mod read;
 mod segment;
 mod segments;
+mod span;
 
 pub use bytes::Bytes;
 pub use fault::ElfFault;
+pub use guests::{Guest, Guests};
 pub use image::Image;
+pub use laws::loaded_ranges_lie_in_ram;
+pub use places::bad_place;
 pub use read::read_elf;
 pub use segment::Segment;
 pub use segments::Segments;
+pub use span::Span;
 
 #[cfg(test)]
 mod tests;

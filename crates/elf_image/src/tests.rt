@@ -1,3 +1,5 @@
+mod places;
+
 use super::*;
 use std::test::Fail;
 
