@@ -1,7 +1,5 @@
-pub mod Begins
-pub mod Fields
-pub mod Images
-pub mod OneImage
+pub mod ImageLemmas
 pub mod PlaceLemmas
 pub mod RamLemmas
 pub mod StartLemmas
+pub mod TableLemmas

@@ -1,8 +1,9 @@
-pub mod Front
+pub mod Fields
+pub mod Grammar
 pub mod Header
 pub mod IsImage
 pub mod Laws
-pub mod Loads
+pub mod Parts
 pub mod Places
 pub mod Ranges
 pub mod Start

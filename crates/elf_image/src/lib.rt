@@ -4,20 +4,22 @@
 mod address_range;
 mod bytes;
 mod fault;
-mod front;
+mod fields;
+mod file_header;
 mod guests;
-mod headers;
 mod image;
 mod laws;
 mod layout;
+mod load;
 mod places;
 mod read;
 mod segment;
 mod segments;
 mod span;
+mod table;
 
 pub use bytes::Bytes;
-pub use fault::ElfFault;
+pub use fault::{ElfFault, WriteElfFault};
 pub use guests::{Guest, Guests};
 pub use image::Image;
 pub use laws::loaded_ranges_lie_in_ram;
