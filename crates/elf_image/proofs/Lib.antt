@@ -3,3 +3,4 @@ pub mod PlaceLemmas
 pub mod RamLemmas
 pub mod StartLemmas
 pub mod TableLemmas
+pub mod WriteLemmas

@@ -7,7 +7,7 @@ use crate::fault::ElfFault;
 use crate::fields::{half_at, word_at, xword_at};
 
 /// How many bytes the header of a file has.
-const HEADER_BYTES: usize = 64;
+pub const HEADER_BYTES: usize = 64;
 
 /// How many bytes the header of a segment has.
 pub const SEGMENT_HEADER_BYTES: usize = 56;

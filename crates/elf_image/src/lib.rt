@@ -17,6 +17,7 @@ mod segment;
 mod segments;
 mod span;
 mod table;
+mod write;
 
 pub use bytes::Bytes;
 pub use fault::{ElfFault, WriteElfFault};
@@ -28,6 +29,7 @@ pub use read::read_elf;
 pub use segment::Segment;
 pub use segments::Segments;
 pub use span::Span;
+pub use write::write_elf;
 
 #[cfg(test)]
 mod tests;
