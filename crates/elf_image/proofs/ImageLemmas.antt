@@ -31,7 +31,7 @@ unfolding image_of
 header-fails bytes fault is = is_fault bytes fault (ap (image_after bytes) (sym is))
 
 -- what a file means whose header is read
-image-after : (bytes : List ℕ) (header : FileHeader) (loads : List Load) (fault : Option ElfFault) → Ok header ≡ header_of bytes → loads ≡ loads_from bytes header.table header.count → fault ≡ fault_of (length bytes) loads → image_of bytes ≡ unless_fault fault (record { entry = header.entry; segments = segments_of bytes loads })
+pub image-after : (bytes : List ℕ) (header : FileHeader) (loads : List Load) (fault : Option ElfFault) → Ok header ≡ header_of bytes → loads ≡ loads_from bytes header.table header.count → fault ≡ fault_of (length bytes) loads → image_of bytes ≡ unless_fault fault (record { entry = header.entry; segments = segments_of bytes loads })
 unfolding image_of
 image-after bytes header loads fault is same fails =
     ap (image_after bytes) (sym is) ∙ ap (image_with bytes header.entry) (sym same)

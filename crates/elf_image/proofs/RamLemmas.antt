@@ -1,9 +1,9 @@
 -- What lies in RAM where no place is bad.
-use Rattle.std.proofs.Common.{◌≡◌, ℕ, zero, suc, ◌+◌, ◌*◌, ◌<◌, ◌≤◌, Bool, true, false, List, [], ◌∷◌, ◌++◌, length, take, map, Option, Some, None, refl, ap, sym, ◌∙◌, arith, append_assoc}
+use Rattle.std.proofs.Common.{◌≡◌, ℕ, zero, suc, ◌+◌, ◌*◌, ◌<◌, ◌≤◌, Bool, true, false, List, [], ◌∷◌, ◌++◌, length, take, map, get_or, Option, Some, None, refl, ap, sym, ◌∙◌, arith, append_assoc}
 use Rattle.std.specs.Prelude.{if◌then◌else◌}
 use Rattle.std.specs.List.{find, slice_get}
 use Rattle.std.proofs.lemmas.List.{append-nil}
-use Rattle.std.proofs.lemmas.Option.{none-some, same_Some, slice_get-map}
+use Rattle.std.proofs.lemmas.Option.{none-some, same_Some, slice_get-get_or, slice_get-map}
 use Rattle.std.proofs.lemmas.Bool.Decides.{nat_tests}
 use Rattle.elf_image.specs.declared.address_range.AddressRange.{AddressRange}
 use Rattle.elf_image.specs.declared.guests.Guest.{Guest}
@@ -58,7 +58,7 @@ stays a ram no_address some = grind (arith, nat_tests)
 
 range_stays : (ram_mib : ℕ) (rs : List AddressRange) (i : ℕ) (a : AddressRange) → bad_pair (ram_range ram_mib) [] rs ≡ None → slice_get rs i ≡ Some a → 0 < a.size → a.at + a.size ≤ ram_mib * 1048576
 range_stays ram_mib rs i a none is some =
-    let within : end_of a ≤ end_of (ram_range ram_mib) = stays a (ram_range ram_mib) (if-none (leaves a (ram_range ram_mib)) (ram_range ram_mib) (find (meets a) (take i rs)) (no_rival (ram_range ram_mib) [] rs i a none is)).0 some in
+    let within : end_of a ≤ end_of (ram_range ram_mib) = stays a (ram_range ram_mib) (if-none (leaves a (ram_range ram_mib)) (ram_range ram_mib) (find (λ r. meets r a) (take i rs)) (no_rival (ram_range ram_mib) [] rs i a none is)).0 some in
     omega arith
 
 pub lie_in_ram : (image : Image) (guests : List Guest) (ram_mib : ℕ) → bad_place_of image guests ram_mib ≡ None → LieInRam image guests ram_mib
@@ -74,8 +74,10 @@ lie_in_ram image guests ram_mib none =
       guests_lie = λ i g is some.
           range_stays ram_mib rs (length (map segment_range image.segments) + i) (guest_range g) no_pair
           (rw (slice_get-append_right (map segment_range image.segments) (map guest_range guests) i, slice_get-map guest_range guests i, is) refl) some;
-      apart = λ i j a b lt at_a at_b.
-          find-none (meets b) (take j rs) i a
-          (if-none (leaves b ram) ram (find (meets b) (take j rs)) (no_rival ram [] rs j b no_pair at_b)).1
-          (slice_get-take rs j i a lt at_a);
+      apart = λ i j d lt within.
+          let b : AddressRange = get_or rs j d in
+          let a : AddressRange = get_or rs i d in
+          find-none (λ r. meets r b) (take j rs) i a
+          (if-none (leaves b ram) ram (find (λ r. meets r b) (take j rs)) (no_rival ram [] rs j b no_pair (slice_get-get_or rs j d within))).1
+          (slice_get-take rs j i a lt (slice_get-get_or rs i d (omega arith)));
     }

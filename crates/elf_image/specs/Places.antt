@@ -9,7 +9,7 @@ use Rattle.elf_image.specs.Ranges.{end_of, meets, leaves, ranges_of}
 
 -- what a range has no place beside: RAM where it leaves this, else the first that it meets of some others
 abbrev pub rival_of : AddressRange → List AddressRange → AddressRange → Option AddressRange
-rival_of ram others a = if leaves a ram then Some ram else find (meets a) others
+rival_of ram others a = if leaves a ram then Some ram else find (λ b. meets b a) others
 
 abbrev pub pair_or : AddressRange → Option AddressRange → Option (AddressRange × AddressRange) → Option (AddressRange × AddressRange)
 pair_or a None next = next

@@ -69,7 +69,7 @@ fn rival(
     }
     for i in 0..number {
         let earlier = range_at(segments, guests, i);
-        if meets(range, earlier) {
+        if meets(earlier, range) {
             return Some(earlier);
         }
     }
