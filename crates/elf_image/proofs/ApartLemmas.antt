@@ -1,15 +1,11 @@
 -- Loads and segments that are apart.
-use Rattle.std.proofs.Common.{◌≡◌, ◌⊎◌, inl, inr, ℕ, zero, suc, ◌+◌, ◌<◌, ◌≤◌, Bool, true, false, cond, List, [], ◌∷◌, ◌++◌, length, take, map, get_or, Option, Some, None, Result, Ok, Err, refl, ap, sym, ◌∙◌, subst, arith, append_assoc}
-use Rattle.std.specs.List.{AllPairs, Contains, filter, find, position_from, slice_get}
+use Rattle.std.proofs.Common.{◌≡◌, ℕ, zero, suc, ◌+◌, ◌<◌, Bool, false, List, [], ◌∷◌, ◌++◌, length, take, map, get_or, Option, Some, None, refl, sym, arith, append_assoc}
+use Rattle.std.specs.List.{AllPairs, find, position_from}
 use Rattle.std.proofs.lemmas.List.{append-nil, get_or-map, get_or-take, get_or_at, get_or_append_left, length-map, length-take-le, length-append}
-use Rattle.std.proofs.lemmas.List.Kept.{AllPairs-filter}
-use Rattle.std.proofs.lemmas.Option.{none-some, same_Some}
-use Rattle.elf_image.specs.declared.address_range.AddressRange.{AddressRange}
+use Rattle.std.proofs.lemmas.Option.{none-some}
 use Rattle.elf_image.specs.declared.load.Load.{Load}
-use Rattle.elf_image.specs.declared.segment.Segment.{Segment}
 use Rattle.elf_image.specs.Ranges.{meets}
 use Rattle.elf_image.specs.Grammar.{meets_load, numbered, overlap_from}
-use Rattle.elf_image.specs.Laws.{AreApart}
 use Rattle.elf_image.proofs.TableLemmas.{position-none}
 
 -- pairs of what a function makes of a list
@@ -29,16 +25,16 @@ no_earlier : (before rest : List Load) (j : ℕ) (d : Load) → overlap_from bef
 no_earlier before [] j d none within = absurd (omega arith)
 no_earlier before (load ∷ rest) zero d none within =
     rw (append-nil before) (first (position_from (meets_load load) 0 before) none)
-    where
-      first : (o : Option ℕ) → numbered o (length before) (overlap_from (before ++ load ∷ []) rest) ≡ None → o ≡ None
-      first None none = refl
-      first (Some i) none = absurd (none-some _ (sym none))
+  where
+    first : (o : Option ℕ) → numbered o (length before) (overlap_from (before ++ load ∷ []) rest) ≡ None → o ≡ None
+    first None none = refl
+    first (Some i) none = absurd (none-some _ (sym none))
 no_earlier before (load ∷ rest) (suc j) d none within =
     rw append_assoc at (no_earlier (before ++ load ∷ []) rest j d (later (position_from (meets_load load) 0 before) none) (omega arith))
-    where
-      later : (o : Option ℕ) → numbered o (length before) (overlap_from (before ++ load ∷ []) rest) ≡ None → overlap_from (before ++ load ∷ []) rest ≡ None
-      later None none = none
-      later (Some i) none = absurd (none-some _ (sym none))
+  where
+    later : (o : Option ℕ) → numbered o (length before) (overlap_from (before ++ load ∷ []) rest) ≡ None → overlap_from (before ++ load ∷ []) rest ≡ None
+    later None none = none
+    later (Some i) none = absurd (none-some _ (sym none))
 
 pub loads_apart : (loads : List Load) → overlap_from [] loads ≡ None → AllPairs (λ a b. meets a.range b.range ≡ false) loads
 loads_apart loads none = λ i j d lt within.

@@ -1,5 +1,5 @@
 -- What a file's header and its loads make of it.
-use Rattle.std.proofs.Common.{◌≡◌, ℕ, List, [], length, map, Option, Some, None, Result, Ok, Err, refl, ap, sym, ◌∙◌}
+use Rattle.std.proofs.Common.{◌≡◌, ℕ, List, [], length, map, Option, Some, None, Ok, Err, refl, ap, sym, ◌∙◌}
 use Rattle.std.specs.List.{position_from}
 use Rattle.std.proofs.lemmas.Option.{none-some}
 use Rattle.elf_image.specs.declared.load.Load.{Load}
@@ -7,7 +7,7 @@ use Rattle.elf_image.specs.declared.file_header.FileHeader.{FileHeader}
 use Rattle.elf_image.specs.declared.segment.Segment.{Segment}
 use Rattle.elf_image.specs.declared.fault.ElfFault.{ElfFault}
 use Rattle.elf_image.specs.declared.fault.ElfFault.TheVariants as faults
-use Rattle.elf_image.specs.Parts.{ImageParts, segment_parts, image_parts}
+use Rattle.elf_image.specs.Parts.{segment_parts}
 use Rattle.elf_image.specs.Grammar.{header_of, loads_from, is_bad, overlap_from, fault_by, fault_of, segments_of, unless_fault, image_with, image_after, image_of}
 use Rattle.elf_image.specs.IsImage.{IsImage, IsImageFault}
 

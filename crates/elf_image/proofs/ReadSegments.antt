@@ -1,14 +1,12 @@
 -- The segments of a file's image.
-use Rattle.std.proofs.Common.{◌≡◌, ◌⊎◌, inl, inr, ℕ, zero, suc, ◌+◌, ◌<◌, ◌≤◌, Bool, true, false, cond, List, [], ◌∷◌, ◌++◌, length, map, get_or, Option, Some, None, Result, Ok, Err, refl, ap, sym, ◌∙◌, subst, arith, append_assoc}
+use Rattle.std.proofs.Common.{◌≡◌, ◌⊎◌, inl, inr, ℕ, zero, suc, Bool, true, false, List, [], ◌∷◌, ◌++◌, length, map, Option, Some, None, Result, Ok, Err, refl, ap, sym, ◌∙◌, subst, arith, append_assoc}
 use Rattle.std.specs.Prelude.{if◌then◌else◌}
 use Rattle.std.specs.List.{AllPairs, Contains, filter, find}
-use Rattle.std.proofs.lemmas.List.{get_or-map, length-map, append-nil}
 use Rattle.std.proofs.lemmas.List.Kept.{AllPairs-filter}
 use Rattle.std.proofs.lemmas.Option.{none-some, same_Some, some_pair_parts}
 use Rattle.elf_image.specs.declared.address_range.AddressRange.{AddressRange}
 use Rattle.elf_image.specs.declared.file_header.FileHeader.{FileHeader}
 use Rattle.elf_image.specs.declared.load.Load.{Load}
-use Rattle.elf_image.specs.declared.segment.Segment.{Segment}
 use Rattle.elf_image.specs.declared.guests.Guest.{Guest}
 use Rattle.elf_image.specs.declared.span.Span.{Span}
 use Rattle.elf_image.specs.declared.image.Image.{Image}
@@ -16,7 +14,7 @@ use Rattle.elf_image.specs.declared.fault.ElfFault.{ElfFault}
 use Rattle.elf_image.specs.Parts.{SegmentParts, ImageParts, segment_parts, image_parts}
 use Rattle.elf_image.specs.Ranges.{meets, leaves, segment_range, guest_range, ranges_of}
 use Rattle.elf_image.specs.Places.{rival_of, pair_or, bad_pair, span_of, spans_of, ram_range, bad_place_of}
-use Rattle.elf_image.specs.Grammar.{header_of, loads_from, has_size, segment_of, segments_of, fault_of, unless_fault, image_with, image_after, image_of}
+use Rattle.elf_image.specs.Grammar.{header_of, loads_from, has_size, segment_of, segments_of, fault_of, unless_fault, image_after, image_of}
 use Rattle.elf_image.specs.IsImage.{IsImage}
 use Rattle.elf_image.specs.Laws.{AreApart}
 use Rattle.elf_image.proofs.ImageLemmas.{no_fault}
@@ -66,10 +64,10 @@ pair-some x (Some y) next a b is = let parts = some_pair_parts x a y b is in inl
 among : (ram : AddressRange) (before gs : List AddressRange) (a b : AddressRange) → bad_pair ram before gs ≡ Some (a, b) → Contains gs a
 among ram before [] a b is = absurd (none-some _ is)
 among ram before (g ∷ gs) a b is = at (pair-some g (rival_of ram before g) (bad_pair ram (before ++ g ∷ []) gs) a b is) (among ram (before ++ g ∷ []) gs a b)
-    where
-      at : ((g ≡ a) × (rival_of ram before g ≡ Some b)) ⊎ ((rival_of ram before g ≡ None) × (bad_pair ram (before ++ g ∷ []) gs ≡ Some (a, b))) → (bad_pair ram (before ++ g ∷ []) gs ≡ Some (a, b) → Contains gs a) → Contains (g ∷ gs) a
-      at (inl here) rest = (0, omega arith, here.0)
-      at (inr later) rest = let found = rest later.1 in (suc found.0, let lt = found.1 in omega arith, found.2)
+  where
+    at : ((g ≡ a) × (rival_of ram before g ≡ Some b)) ⊎ ((rival_of ram before g ≡ None) × (bad_pair ram (before ++ g ∷ []) gs ≡ Some (a, b))) → (bad_pair ram (before ++ g ∷ []) gs ≡ Some (a, b) → Contains gs a) → Contains (g ∷ gs) a
+    at (inl here) rest = (0, omega arith, here.0)
+    at (inr later) rest = let found = rest later.1 in (suc found.0, let lt = found.1 in omega arith, found.2)
 
 -- the pair of a list in whose first part no two ranges meet
 named : (ram : AddressRange) (before ss gs : List AddressRange) (a b : AddressRange) → AreApart (before ++ ss) → bad_pair ram before (ss ++ gs) ≡ Some (a, b) → (b ≡ ram) ⊎ Contains gs a
@@ -77,10 +75,10 @@ named ram before [] gs a b apart is = inr (among ram before gs a b is)
 named ram before (s ∷ ss) gs a b apart is =
     at (find-of_none (λ r. meets r s) before (first_apart (λ x y. meets x y ≡ false) before ss s apart)) (pair-some s (rival_of ram before s) (bad_pair ram (before ++ s ∷ []) (ss ++ gs)) a b is)
     (named ram (before ++ s ∷ []) ss gs a b (rw append_assoc apart))
-    where
-      at : find (λ r. meets r s) before ≡ None → ((s ≡ a) × (rival_of ram before s ≡ Some b)) ⊎ ((rival_of ram before s ≡ None) × (bad_pair ram (before ++ s ∷ []) (ss ++ gs) ≡ Some (a, b))) → (bad_pair ram (before ++ s ∷ []) (ss ++ gs) ≡ Some (a, b) → (b ≡ ram) ⊎ Contains gs a) → (b ≡ ram) ⊎ Contains gs a
-      at none (inl here) rest = inl (ram_rival ram before s b (leaves s ram) refl none here.1)
-      at none (inr later) rest = rest later.1
+  where
+    at : find (λ r. meets r s) before ≡ None → ((s ≡ a) × (rival_of ram before s ≡ Some b)) ⊎ ((rival_of ram before s ≡ None) × (bad_pair ram (before ++ s ∷ []) (ss ++ gs) ≡ Some (a, b))) → (bad_pair ram (before ++ s ∷ []) (ss ++ gs) ≡ Some (a, b) → (b ≡ ram) ⊎ Contains gs a) → (b ≡ ram) ⊎ Contains gs a
+    at none (inl here) rest = inl (ram_rival ram before s b (leaves s ram) refl none here.1)
+    at none (inr later) rest = rest later.1
 
 -- the span of a range among those of guests
 spans-contain : (guests : List Guest) (x : AddressRange) (a : Span) → span_of x ≡ a → Contains (map guest_range guests) x → Contains (map (λ g. span_of (guest_range g)) guests) a
@@ -93,10 +91,10 @@ spans-contain (g ∷ gs) x a same (suc k, lt, is) =
 told : (ram : AddressRange) (guests : List Guest) (o : Option (AddressRange × AddressRange)) (a b : Span) → spans_of o ≡ Some (a, b) → ((x y : AddressRange) → o ≡ Some (x, y) → (y ≡ ram) ⊎ Contains (map guest_range guests) x) → (b ≡ span_of ram) ⊎ Contains (map (λ g. span_of (guest_range g)) guests) a
 told ram guests None a b is names = absurd (none-some _ is)
 told ram guests (Some pair) a b is names = at (names pair.0 pair.1 refl) (some_pair_parts (span_of pair.0) a (span_of pair.1) b is)
-    where
-      at : (pair.1 ≡ ram) ⊎ Contains (map guest_range guests) pair.0 → (span_of pair.0 ≡ a) × (span_of pair.1 ≡ b) → (b ≡ span_of ram) ⊎ Contains (map (λ g. span_of (guest_range g)) guests) a
-      at (inl same) parts = inl (sym parts.1 ∙ ap span_of same)
-      at (inr here) parts = inr (spans-contain guests pair.0 a parts.0 here)
+  where
+    at : (pair.1 ≡ ram) ⊎ Contains (map guest_range guests) pair.0 → (span_of pair.0 ≡ a) × (span_of pair.1 ≡ b) → (b ≡ span_of ram) ⊎ Contains (map (λ g. span_of (guest_range g)) guests) a
+    at (inl same) parts = inl (sym parts.1 ∙ ap span_of same)
+    at (inr here) parts = inr (spans-contain guests pair.0 a parts.0 here)
 
 pub bad_place_names : (bytes : List ℕ) (image : Image) (guests : List Guest) (ram_mib : ℕ) (a b : Span) → IsImage bytes image → bad_place_of image guests ram_mib ≡ Some (a, b) → (b ≡ span_of (ram_range ram_mib)) ⊎ Contains (map (λ g. span_of (guest_range g)) guests) a
 unfolding bad_place_of

@@ -1,10 +1,9 @@
 -- The file of an image is read back.
-use Rattle.std.proofs.Common.{◌≡◌, ℕ, zero, suc, ◌+◌, ◌-◌, ◌*◌, ◌^◌, ◌<◌, ◌≤◌, Bool, true, false, cond, not, List, [], ◌∷◌, ◌++◌, length, take, drop, map, get_or, Option, Some, None, Result, Ok, Err, refl, ap, sym, ◌∙◌, arith, append_assoc, length-append}
-use Rattle.std.specs.Prelude.{nat_le, nat_lt, ◌==◌, ◌&&◌, ◌||◌, ◌%◌, slice_index}
-use Rattle.std.specs.List.{AllByRecursion, AllPairs, filter, position_from}
+use Rattle.std.proofs.Common.{◌≡◌, ℕ, ◌+◌, ◌*◌, ◌^◌, ◌<◌, ◌≤◌, Bool, true, false, cond, not, List, [], ◌∷◌, ◌++◌, length, take, drop, map, None, Ok, refl, ap, sym, ◌∙◌, arith, append_assoc, length-append}
+use Rattle.std.specs.Prelude.{nat_le, nat_lt, ◌==◌, ◌||◌, ◌%◌, slice_index}
+use Rattle.std.specs.List.{AllByRecursion, filter, position_from}
 use Rattle.std.proofs.lemmas.List.{drop_at, take_at, append-nil}
 use Rattle.std.proofs.lemmas.Bool.Decides.{nat_tests}
-use Rattle.byteorder.specs.Endian.{little_number}
 use Rattle.byteorder.specs.Numbers.{little_number-reads_back}
 use Rattle.elf_image.specs.declared.address_range.AddressRange.{AddressRange}
 use Rattle.elf_image.specs.declared.load.Load.{Load}
@@ -14,8 +13,8 @@ use Rattle.elf_image.specs.declared.image.Image.{Image}
 use Rattle.elf_image.specs.Fields.{half_at, word_at, xword_at}
 use Rattle.elf_image.specs.Header.{header, program_header}
 use Rattle.elf_image.specs.Ranges.{meets, segment_range}
-use Rattle.elf_image.specs.Parts.{SegmentParts, segment_parts, image_parts}
-use Rattle.elf_image.specs.Grammar.{checked, table_lies_in, header_of, load_of, loads_from, is_good, is_bad, overlap_from, fault_by, fault_of, segment_of, has_size, segments_of, image_of}
+use Rattle.elf_image.specs.Parts.{SegmentParts, segment_parts}
+use Rattle.elf_image.specs.Grammar.{table_lies_in, header_of, load_of, loads_from, is_bad, overlap_from, fault_of, segment_of, has_size, segments_of}
 use Rattle.elf_image.specs.Written.{program_headers, bytes_of, written}
 use Rattle.elf_image.specs.IsImage.{IsImage}
 use Rattle.elf_image.specs.Laws.{AreApart, IsWritable, without_empty}
@@ -202,12 +201,12 @@ segments_in file (s ∷ ss) front offset is long =
     at (nat_lt 0 s.size)
     (ap (λ (f : List ℕ). take (length s.bytes) (drop offset f)) is ∙ bytes_in front s.bytes (bytes_of ss) offset long)
     (segments_in file ss (front ++ s.bytes) (offset + length s.bytes) parts next)
-    where
-      at : (some : Bool) → take (length s.bytes) (drop offset file) ≡ s.bytes → segments_of file (loads_at (offset + length s.bytes) ss) ≡ map segment_parts (filter (λ s. nat_lt 0 s.size) ss) → map (segment_of file) (cond some (load_at offset s ∷ filter has_size (loads_at (offset + length s.bytes) ss)) (filter has_size (loads_at (offset + length s.bytes) ss))) ≡ map segment_parts (cond some (s ∷ filter (λ s. nat_lt 0 s.size) ss) (filter (λ s. nat_lt 0 s.size) ss))
-      at true here rest =
-          ap (λ (b : List ℕ). record { at = s.at; size = s.size; bytes = b } ∷ segments_of file (loads_at (offset + length s.bytes) ss)) here
-          ∙ ap (λ (ps : List SegmentParts). segment_parts s ∷ ps) rest
-      at false here rest = rest
+  where
+    at : (some : Bool) → take (length s.bytes) (drop offset file) ≡ s.bytes → segments_of file (loads_at (offset + length s.bytes) ss) ≡ map segment_parts (filter (λ s. nat_lt 0 s.size) ss) → map (segment_of file) (cond some (load_at offset s ∷ filter has_size (loads_at (offset + length s.bytes) ss)) (filter has_size (loads_at (offset + length s.bytes) ss))) ≡ map segment_parts (cond some (s ∷ filter (λ s. nat_lt 0 s.size) ss) (filter (λ s. nat_lt 0 s.size) ss))
+    at true here rest =
+        ap (λ (b : List ℕ). record { at = s.at; size = s.size; bytes = b } ∷ segments_of file (loads_at (offset + length s.bytes) ss)) here
+        ∙ ap (λ (ps : List SegmentParts). segment_parts s ∷ ps) rest
+    at false here rest = rest
 
 no_faults : (len : ℕ) (loads : List Load) → position_from (is_bad len) 0 loads ≡ None → overlap_from [] loads ≡ None → fault_of len loads ≡ None
 unfolding fault_of

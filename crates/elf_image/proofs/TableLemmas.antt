@@ -10,10 +10,10 @@ use Rattle.elf_image.specs.Grammar.{load_of, loads_from, meets_load, numbered, o
 position-append : {X : Type 0} (p : X → Bool) (xs ys : List X) (n : ℕ) → position_from p n (xs ++ ys) ≡ option_or (position_from p n xs) (position_from p (n + length xs) ys)
 position-append p [] ys n = let e : n + 0 ≡ n = omega arith in rw e refl
 position-append {X = X} p (x ∷ xs) ys n = go (p x) (position-append p xs ys (n + 1))
-    where
-      go : (test : Bool) → position_from p (n + 1) (xs ++ ys) ≡ option_or (position_from p (n + 1) xs) (position_from p (n + 1 + length xs) ys) → cond test (Some n) (position_from p (n + 1) (xs ++ ys)) ≡ option_or (cond test (Some n) (position_from p (n + 1) xs)) (position_from p (n + suc (length xs)) ys)
-      go true rest = refl
-      go false rest = let e : n + suc (length xs) ≡ n + 1 + length xs = omega arith in rw e rest
+  where
+    go : (test : Bool) → position_from p (n + 1) (xs ++ ys) ≡ option_or (position_from p (n + 1) xs) (position_from p (n + 1 + length xs) ys) → cond test (Some n) (position_from p (n + 1) (xs ++ ys)) ≡ option_or (cond test (Some n) (position_from p (n + 1) xs)) (position_from p (n + suc (length xs)) ys)
+    go true rest = refl
+    go false rest = let e : n + suc (length xs) ≡ n + 1 + length xs = omega arith in rw e rest
 
 -- not at the next place either
 pub position-next : {X : Type 0} (p : X → Bool) (xs : List X) (i : ℕ) (d : X) → i < length xs → position_from p 0 (take i xs) ≡ None → p (get_or xs i d) ≡ false → position_from p 0 (take (i + 1) xs) ≡ None
@@ -30,11 +30,11 @@ position-first p xs i d lt none passes =
 pub position-none : {X : Type 0} (p : X → Bool) (xs : List X) (n k : ℕ) (d : X) → position_from p n xs ≡ None → k < length xs → p (get_or xs k d) ≡ false
 position-none p [] n k d none lt = absurd (omega arith)
 position-none {X = X} p (x ∷ xs) n k d none lt = go (p x) refl none k lt (λ none' k' lt'. position-none p xs (n + 1) k' d none' lt')
-    where
-      go : (test : Bool) → p x ≡ test → cond test (Some n) (position_from p (n + 1) xs) ≡ None → (k : ℕ) → k < suc (length xs) → (position_from p (n + 1) xs ≡ None → (k' : ℕ) → k' < length xs → p (get_or xs k' d) ≡ false) → p (get_or (x ∷ xs) k d) ≡ false
-      go true is none k lt rest = absurd (none-some n (sym none))
-      go false is none zero lt rest = is
-      go false is none (suc k) lt rest = rest none k (omega arith)
+  where
+    go : (test : Bool) → p x ≡ test → cond test (Some n) (position_from p (n + 1) xs) ≡ None → (k : ℕ) → k < suc (length xs) → (position_from p (n + 1) xs ≡ None → (k' : ℕ) → k' < length xs → p (get_or xs k' d) ≡ false) → p (get_or (x ∷ xs) k d) ≡ false
+    go true is none k lt rest = absurd (none-some n (sym none))
+    go false is none zero lt rest = is
+    go false is none (suc k) lt rest = rest none k (omega arith)
 
 -- one header more
 pub loads_from-push : (bytes : List ℕ) (place n : ℕ) → loads_from bytes place (n + 1) ≡ loads_from bytes place n ++ load_of (drop (place + 56 * n) bytes) ∷ []

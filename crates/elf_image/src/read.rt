@@ -53,8 +53,8 @@ fn load_segments(alloc: Global, file: &[u8], loads: &[Load]) -> Result<Segments,
 
 /// Reads an ELF file for 64-bit little-endian Power.
 ///
-/// Answers the image of the file, or the first fault in the order of [`ElfFault`]. `Memory` may come
-/// at any file that has no other fault.
+/// Answers the image of the file, or its first fault in the order of [`ElfFault`]. `Memory` may come
+/// at any file, and says nothing of it.
 pub fn read_elf(alloc: Global, bytes: &[u8]) -> Result<Image, ElfFault>
     ensures { Reads bytes.now result }
 {

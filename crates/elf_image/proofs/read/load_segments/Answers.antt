@@ -1,5 +1,5 @@
 use Rattle.std.proofs.Common.{Bool, true, false, not, ◌≡◌, refl, sym}
-use Rattle.elf_image.specs.Grammar.{is_bad, is_good}
+use Rattle.elf_image.specs.Grammar.{is_bad}
 use Rattle.elf_image.proofs.TableLemmas.{position-none}
 use Rattle.elf_image.proofs.read.load_segments.Goals as goal
 

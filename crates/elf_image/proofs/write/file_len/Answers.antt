@@ -1,4 +1,4 @@
-use Rattle.std.proofs.Common.{ap, arith, length, List, ℕ, length-append, ◌∙◌}
+use Rattle.std.proofs.Common.{arith}
 use Rattle.elf_image.proofs.WriteLemmas.{length-bytes_of-more}
 use Rattle.elf_image.proofs.write.file_len.Goals as goal
 

@@ -1,5 +1,4 @@
-use Rattle.std.proofs.Common.{ap, sym, List, ℕ, ◌++◌, append_assoc, ◌∙◌}
-use Rattle.elf_image.specs.Written.{bytes_of}
+use Rattle.std.proofs.Common.{append_assoc}
 use Rattle.elf_image.proofs.WriteLemmas.{bytes_of-more}
 use Rattle.elf_image.proofs.write.push_bytes.Goals as goal
 

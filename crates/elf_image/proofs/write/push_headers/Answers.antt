@@ -1,5 +1,4 @@
-use Rattle.std.proofs.Common.{◌≤◌, ◌≡◌, ◌+◌, ap, sym, arith, List, ℕ, length, take, length-append, append_assoc, ◌∙◌}
-use Rattle.elf_image.specs.Written.{bytes_of}
+use Rattle.std.proofs.Common.{◌+◌, arith, append_assoc}
 use Rattle.elf_image.proofs.WriteLemmas.{length-bytes_of-more, program_headers-more, length-bytes_of-take}
 use Rattle.elf_image.proofs.write.push_headers.Goals as goal
 
