@@ -17,6 +17,7 @@ static volatile byte *const console = (volatile byte *)0x10000000;
 /* A store here stops the machine. */
 static volatile byte *const control = (volatile byte *)0x10001000;
 
+/* With -DWITHOUT_DATA the zeros are all that is written to. */
 #ifndef WITHOUT_DATA
 volatile byte greeting[] = "hello, from the data\n";
 #endif
@@ -32,7 +33,9 @@ static void show(const byte *from, const byte *to)
 void show_all(void)
 {
     show(text_start, _etext);
+#ifndef WITHOUT_DATA
     show(data_start, _edata);
+#endif
     show(__bss_start, _end);
     zeros[0] = 1;
     *control = 0;

@@ -64,7 +64,7 @@ pub fn read_header(bytes: &[u8]) -> Result<FileHeader, ElfFault>
     if half_at(bytes, 54) != 56 || count == 0 || end > bytes.len() as u128 {
         return Err(ElfFault::Header);
     }
-    if count > 64 {
+    if usize::from(count) > MOST_HEADERS {
         return Err(ElfFault::TooMany);
     }
     Ok(FileHeader {
