@@ -3,9 +3,10 @@ use Rattle.std.proofs.Common.{◌≡◌, ℕ, zero, suc, ◌+◌, ◌*◌, ◌<�
 use Rattle.std.specs.Prelude.{if◌then◌else◌}
 use Rattle.std.specs.List.{find, slice_get}
 use Rattle.std.proofs.lemmas.List.{append-nil}
-use Rattle.std.proofs.lemmas.Option.{none-some, same_Some, slice_get-get_or, slice_get-map}
+use Rattle.std.proofs.lemmas.Option.{none-some, same_Some, slice_get-get_or, slice_get-map, slice_get_read}
 use Rattle.std.proofs.lemmas.Bool.Decides.{nat_tests}
 use Rattle.elf_image.specs.declared.address_range.AddressRange.{AddressRange}
+use Rattle.elf_image.specs.declared.segment.Segment.{Segment}
 use Rattle.elf_image.specs.declared.guests.Guest.{Guest}
 use Rattle.elf_image.specs.declared.image.Image.{Image}
 use Rattle.elf_image.specs.Ranges.{end_of, meets, leaves, segment_range, guest_range, ranges_of}
@@ -81,3 +82,14 @@ lie_in_ram image guests ram_mib none =
           (if-none (leaves b ram) ram (find (λ r. meets r b) (take j rs)) (no_rival ram [] rs j b no_pair (slice_get-get_or rs j d within))).1
           (slice_get-take rs j i a lt (slice_get-get_or rs i d (omega arith)));
     }
+
+-- what a caller has of a segment in its turn: its bytes lie in RAM
+pub segment_fits : (image : Image) (guests : List Guest) (ram_mib i : ℕ) (s : Segment) → LieInRam image guests ram_mib → i < length image.segments → s ≡ get_or image.segments i s → 0 < length s.bytes → s.at + length s.bytes ≤ ram_mib * 1048576
+segment_fits image guests ram_mib i s lie below is some =
+    let holds = s.holds_bytes in
+    let within : s.at + s.size ≤ ram_mib * 1048576 = lie.segments_lie i s (slice_get_read image.segments (length image.segments) i s refl below is) (omega arith) in
+    omega arith
+
+-- and of a guest
+pub guest_fits : (image : Image) (guests : List Guest) (ram_mib i : ℕ) (g : Guest) → LieInRam image guests ram_mib → i < length guests → g ≡ get_or guests i g → 0 < length g.bytes → g.at + length g.bytes ≤ ram_mib * 1048576
+guest_fits image guests ram_mib i g lie below is some = lie.guests_lie i g (slice_get_read guests (length guests) i g refl below is) some

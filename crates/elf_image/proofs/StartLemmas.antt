@@ -1,7 +1,8 @@
 -- RAM as segments and guests are placed in it, one after another.
-use Rattle.std.proofs.Common.{◌≡◌, ℕ, ◌+◌, ◌<◌, ◌≤◌, List, [], ◌∷◌, ◌++◌, length, take, get_or, refl, sym, ap, ◌∙◌}
-use Rattle.std.proofs.lemmas.List.{take_more, take_all}
+use Rattle.std.proofs.Common.{◌≡◌, ℕ, ◌+◌, ◌<◌, ◌≤◌, List, [], ◌∷◌, ◌++◌, length, take, drop, get_or, refl, sym, ap, ◌∙◌, arith}
+use Rattle.std.proofs.lemmas.List.{take_more, take_all, append-nil, take-append-drop}
 use Rattle.journal_core.specs.Bytes.{placed}
+use Rattle.journal_core.proofs.BytesLemmas.{length-placed}
 use Rattle.elf_image.specs.declared.segment.Segment.{Segment}
 use Rattle.elf_image.specs.declared.guests.Guest.{Guest}
 use Rattle.elf_image.specs.Start.{loaded, with_guests}
@@ -33,3 +34,11 @@ with_guests_more ram all k g below is =
 -- all guests
 pub all_with_guests : (ram now : List ℕ) (all : List Guest) (k : ℕ) → length all ≤ k → now ≡ with_guests ram (take k all) → now ≡ with_guests ram all
 all_with_guests ram now all k le is = is ∙ ap (λ (gs : List Guest). with_guests ram gs) (take_all k all le)
+
+-- storage keeps its length where bytes are placed in it, or none at all
+pub length-placed_within : (ram : List ℕ) (at : ℕ) (bytes : List ℕ) → (0 < length bytes → at + length bytes ≤ length ram) → length (placed ram at bytes) ≡ length ram
+unfolding placed
+length-placed_within ram at [] within =
+    let none : take at ram ++ [] ++ drop (at + 0) ram ≡ ram = let e : at + 0 ≡ at = omega arith in rw (e, append-nil (take at ram)) (take-append-drop at ram) in
+    ap (λ (r : List ℕ). length r) none
+length-placed_within ram at (b ∷ bs) within = length-placed ram at (b ∷ bs) (within (omega arith))
