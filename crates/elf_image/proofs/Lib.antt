@@ -1,4 +1,10 @@
-pub mod Begins
-pub mod Fields
-pub mod Images
+pub mod ApartLemmas
+pub mod ImageLemmas
 pub mod OneImage
+pub mod PlaceLemmas
+pub mod RamLemmas
+pub mod StartLemmas
+pub mod TableLemmas
+pub mod WriteLemmas
+pub mod ReadSegments
+pub mod RoundTrip

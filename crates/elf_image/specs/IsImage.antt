@@ -1,30 +1,21 @@
--- Files of an image with one segment, and what a reader of them answers.
-use Rattle.std.specs.Prelude.{◌≡◌, ◌<◌, ◌≤◌, ℕ, ◌+◌, ◌^◌, List, [], ◌∷◌, length, Result, Ok, Err}
-use Rattle.elf_image.specs.declared.segment.Segment.{Segment}
+-- The image of a file, and what a reader of files answers.
+use Rattle.std.specs.Prelude.{◌≡◌, ℕ, List, Result, Ok, Err}
 use Rattle.elf_image.specs.declared.image.Image.{Image}
 use Rattle.elf_image.specs.declared.fault.ElfFault.{ElfFault}
 use Rattle.elf_image.specs.declared.fault.ElfFault.TheVariants as faults
-use Rattle.elf_image.specs.Written.{written}
+use Rattle.elf_image.specs.Parts.{image_parts}
+use Rattle.elf_image.specs.Grammar.{image_of}
 
--- where the memory ends that a segment may take: 16 MiB
-abbrev pub memory_end : ℕ
-memory_end = 16777216
+-- the bytes are a file of this image
+abbrev pub IsImage : List ℕ → Image → Type 0
+IsImage bytes image = image_of bytes ≡ Ok (image_parts image)
 
--- The bytes are the file of an image, which has one segment within the memory.
-pub record IsImage (bytes : List ℕ) (image : Image) : Type 0 where
-  pub segment : Segment
-  pub one : image.segments ≡ segment ∷ []
-  pub is_written : bytes ≡ written image
-  pub entry_fits : image.entry < 2 ^ 64
-  pub holds_bytes : length segment.bytes ≤ segment.size
-  pub ends : segment.at + segment.size ≤ memory_end
-
--- What a fault says of the bytes: of Form, that they are the file of no image.
+-- what a fault says of the bytes: that it is their first, but of want of memory nothing
 abbrev pub IsImageFault : List ℕ → ElfFault → Type 0
-IsImageFault bytes faults.Form = (image : Image) → ¬ IsImage bytes image
 IsImageFault bytes faults.Memory = Unit {0}
+IsImageFault bytes fault = image_of bytes ≡ Err fault
 
--- What reading the bytes says.
+-- what reading the bytes says
 abbrev pub Reads : List ℕ → Result Image ElfFault → Type 0
 Reads bytes (Ok image) = IsImage bytes image
 Reads bytes (Err fault) = IsImageFault bytes fault

@@ -1,5 +1,10 @@
-pub mod Front
+pub mod Fields
+pub mod Grammar
 pub mod Header
 pub mod IsImage
-pub mod Loads
+pub mod Laws
+pub mod Parts
+pub mod Places
+pub mod Ranges
+pub mod Start
 pub mod Written

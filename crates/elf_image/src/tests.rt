@@ -1,4 +1,9 @@
+mod places;
+mod reading;
+mod writing;
+
 use super::*;
+use std::alloc::Global;
 use std::test::Fail;
 
 /// The file of three words at 0x10000, where the program starts: 38600001, 7C831A14 and 48000000.
@@ -32,68 +37,60 @@ fn changed(changes: &[(usize, u8)]) -> [u8; 132] {
     bytes
 }
 
-#[test]
-fn reads_three_words(rt: HostRuntime) -> Result<(), Fail> {
-    let image = read_elf(rt.alloc(), &THREE_WORDS)?;
-    assert_eq!(rt; image.entry, 0x10000);
-    assert_eq!(rt; image.segments.len(), 1);
-    let segment = image.segments.as_slice().first().ok_or("a segment")?;
-    assert_eq!(rt; segment.at, 0x10000);
-    assert_eq!(rt; segment.size, 12);
-    let words = [
-        0x01, 0x00, 0x60, 0x38, 0x14, 0x1a, 0x83, 0x7c, 0x00, 0x00, 0x00, 0x48,
-    ];
-    assert_eq!(rt; segment.bytes.as_slice(), words.as_slice());
-    Ok(())
-}
-
-#[test]
-fn reads_a_segment_with_zeros_behind_its_bytes(rt: HostRuntime) -> Result<(), Fail> {
-    let image = read_elf(rt.alloc(), &changed(&[(105, 1)]))?;
-    let segment = image.segments.as_slice().first().ok_or("a segment")?;
-    assert_eq!(rt; segment.size, 268);
-    assert_eq!(rt; segment.bytes.len(), 12);
-    Ok(())
-}
-
-#[test]
-fn reads_a_segment_that_ends_where_the_memory_does(rt: HostRuntime) -> Result<(), Fail> {
-    let last = [
-        (80, 0xf4),
-        (81, 0xff),
-        (82, 0xff),
-        (88, 0xf4),
-        (89, 0xff),
-        (90, 0xff),
-    ];
-    let image = read_elf(rt.alloc(), &changed(&last))?;
-    let segment = image.segments.as_slice().first().ok_or("a segment")?;
-    assert_eq!(rt; segment.at, 0xff_fff4);
-    let beyond = [
-        (80, 0xf5),
-        (81, 0xff),
-        (82, 0xff),
-        (88, 0xf5),
-        (89, 0xff),
-        (90, 0xff),
-    ];
-    let refused = read_elf(rt.alloc(), &changed(&beyond));
-    assert!(rt; matches!(refused, Err(ElfFault::Form)));
-    Ok(())
-}
-
-#[test]
-fn refuses_other_forms(rt: HostRuntime) {
-    let short = read_elf(rt.alloc(), &THREE_WORDS[..63]);
-    assert!(rt; matches!(short, Err(ElfFault::Form)));
-    let mut long = [0; 133];
-    long[..132].copy_from_slice(&THREE_WORDS);
-    assert!(rt; matches!(read_elf(rt.alloc(), &long), Err(ElfFault::Form)));
-    // Another ABI, fewer bytes in memory than in the file, and two different addresses.
-    for change in [(48, 1), (104, 11), (88, 1)] {
-        let refused = read_elf(rt.alloc(), &changed(&[change]));
-        assert!(rt; matches!(refused, Err(ElfFault::Form)));
+/// The fault of a file, if it has one.
+fn refusal(alloc: Global, bytes: &[u8]) -> Option<ElfFault> {
+    match read_elf(alloc, bytes) {
+        Ok(_) => None,
+        Err(fault) => Some(fault),
     }
+}
+
+/// The fields of a segment's header that are looked at.
+#[derive(Clone, Copy)]
+struct Entry {
+    kind: u32,
+    offset: u64,
+    at: u64,
+    filesz: u64,
+    memsz: u64,
+}
+
+/// A header of this type, whose segment has no bytes in the file.
+fn without_bytes(kind: u32, at: u64, memsz: u64) -> Entry {
+    Entry {
+        kind,
+        offset: 0,
+        at,
+        filesz: 0,
+        memsz,
+    }
+}
+
+/// The first 64 bytes of the file of three words, for this many headers of segments.
+fn front(alloc: Global, count: u16) -> Result<Vec<u8>, Fail> {
+    let mut out = Vec::from_slice(alloc, &THREE_WORDS[..56])?;
+    out.extend_from_slice(&count.to_le_bytes())?;
+    out.extend_from_slice(&THREE_WORDS[58..64])?;
+    Ok(out)
+}
+
+/// A file of these headers and of `len` bytes in all, which are AB behind the headers.
+///
+/// Flags, virtual address and alignment of the headers are such as no writer gives.
+fn file(alloc: Global, headers: &[Entry], len: usize) -> Result<Vec<u8>, Fail> {
+    let mut out = front(alloc, (headers.len() % 256) as u16)?;
+    for header in headers {
+        out.extend_from_slice(&header.kind.to_le_bytes())?;
+        out.extend_from_slice(&[0xff; 4])?;
+        out.extend_from_slice(&header.offset.to_le_bytes())?;
+        out.extend_from_slice(&[0x77; 8])?;
+        out.extend_from_slice(&header.at.to_le_bytes())?;
+        out.extend_from_slice(&header.filesz.to_le_bytes())?;
+        out.extend_from_slice(&header.memsz.to_le_bytes())?;
+        out.extend_from_slice(&[0x99; 8])?;
+    }
+    out.resize(len, 0xab)?;
+    Ok(out)
 }
 
 #[test]
@@ -115,7 +112,9 @@ fn makes_segments(rt: HostRuntime) -> Result<(), Fail> {
 
 #[test]
 fn says_why(rt: HostRuntime) -> Result<(), Fail> {
-    let form = format!(in rt.alloc(); "{}", ElfFault::Form)?;
-    assert_eq!(rt; form.as_str(), "not an image of one segment");
+    let text = format!(in rt.alloc(); "{}", ElfFault::Overlap(0, 2))?;
+    assert_eq!(rt; text.as_str(), "the segments of headers 0 and 2 meet");
+    let text = format!(in rt.alloc(); "{}", WriteElfFault::NoSegments)?;
+    assert_eq!(rt; text.as_str(), "an image without segments");
     Ok(())
 }

@@ -1,8 +1,6 @@
 -- A machine that was just opened.
-use Rattle.std.proofs.Common.{◌≡◌, ℕ, ◌+◌, ◌<◌, ◌≤◌, List, [], ◌∷◌, ◌++◌, length, take, slice_index_or, Result, Ok, Err, refl, sym, ap, ◌∙◌, arith}
+use Rattle.std.proofs.Common.{◌≡◌, ℕ, ◌<◌, ◌≤◌, List, [], ◌∷◌, length, slice_index_or, Result, Ok, Err, refl, ap, ◌∙◌, arith}
 use Rattle.std.specs.Prelude.{IsErr, OnOk}
-use Rattle.std.proofs.lemmas.List.{take_more, take_all}
-use Rattle.journal_core.specs.Bytes.{placed}
 use Rattle.journal_core.specs.Past.{ram_after, ram_before}
 use Rattle.journal_core.specs.Rows.{JournalView, no_rows}
 use Rattle.journal_core.proofs.RunsLemmas.{IsRun-none}
@@ -11,21 +9,10 @@ use Rattle.thread_regs.specs.Registers.{all_reset}
 use Rattle.elf_image.specs.declared.segment.Segment.{Segment}
 use Rattle.elf_image.specs.declared.image.Image.{Image}
 use Rattle.thread_regs.proofs.ResetLemmas.{length-reset_from}
-use Rattle.ppc_machine.specs.Start.{start, loaded}
+use Rattle.ppc_machine.specs.Start.{start}
 use Rattle.ppc_step.specs.Rule.{KeepsRule, next_state}
 use Rattle.ppc_machine.specs.MachineView.{MachineView, start_of, now_of, IsKept}
 use Rattle.ppc_machine.specs.Machines.{opened}
-
-loaded-push : (ram : List ℕ) (ss : List Segment) (s : Segment) → loaded ram (ss ++ s ∷ []) ≡ placed (loaded ram ss) s.at s.bytes
-loaded-push ram [] s = refl
-loaded-push ram (first ∷ ss) s = loaded-push (placed ram first.at first.bytes) ss s
-
--- one segment more
-pub loaded_more : (ram : List ℕ) (all : List Segment) (k : ℕ) (s : Segment) → k < length all → s ≡ slice_index_or all k s → loaded ram (take (k + 1) all) ≡ placed (loaded ram (take k all)) s.at s.bytes
-loaded_more ram all k s below is =
-    let more = take_more all k s below in
-    let last : take (k + 1) all ≡ take k all ++ s ∷ [] = more ∙ ap (λ (x : Segment). take k all ++ x ∷ []) (sym is) in
-    ap (λ (ss : List Segment). loaded ram ss) last ∙ loaded-push ram (take k all) s
 
 -- the only item of a list
 pub only_one : (all : List Segment) (one : Segment) (k : ℕ) (s : Segment) → all ≡ one ∷ [] → k < length all → s ≡ slice_index_or all k s → s ≡ one
@@ -33,9 +20,6 @@ only_one all one k s is below at =
     let long : length all ≡ 1 = ap (λ (xs : List Segment). length xs) is in
     let first : k ≡ 0 = omega (arith, long, below) in
     at ∙ (rw (is, first) refl)
-
-pub all_loaded : (ram now : List ℕ) (all : List Segment) (k : ℕ) → length all ≤ k → now ≡ loaded ram (take k all) → now ≡ loaded ram all
-all_loaded ram now all k le is = is ∙ ap (λ (ss : List Segment). loaded ram ss) (take_all k all le)
 
 -- an empty journal is lawful where the threads are reset
 pub IsKept-opened : (entry count steps : ℕ) (threads : List Thread) (store : List ℕ) (journal : JournalView) → journal ≡ record { reserved = steps; floor = 0; rows = no_rows } → threads ≡ all_reset count entry → length threads ≡ count → steps ≤ 1048576 →

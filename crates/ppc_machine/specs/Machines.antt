@@ -11,7 +11,7 @@ use Rattle.sched_text.specs.Plan.{Plan, turn}
 use Rattle.elf_image.specs.declared.segment.Segment.{Segment}
 use Rattle.elf_image.specs.declared.image.Image.{Image}
 use Rattle.thread_regs.specs.Registers.{all_reset}
-use Rattle.ppc_machine.specs.Start.{start_ram}
+use Rattle.elf_image.specs.Start.{start_ram}
 use Rattle.ppc_machine.specs.MachineView.{MachineView, now_of, start_of, IsLawful}
 use Rattle.ppc_step.specs.Rule.{StepsTo}
 
@@ -26,7 +26,7 @@ abbrev pub opened : Image → ℕ → ℕ → ℕ → MachineView
 opened image ram_mib threads steps = record {
   entry = image.entry;
   threads = all_reset threads image.entry;
-  store = start_ram image ram_mib;
+  store = start_ram image [] ram_mib;
   journal = record { reserved = steps; floor = 0; rows = no_rows };
 }
 

@@ -3,8 +3,9 @@ use Rattle.std.proofs.lemmas.List.{length-replicate}
 use Rattle.journal_core.specs.Bytes.{placed}
 use Rattle.journal_core.proofs.BytesLemmas.{length-placed}
 use Rattle.elf_image.specs.declared.segment.Segment.{Segment}
-use Rattle.ppc_machine.specs.Start.{start_ram}
-use Rattle.ppc_machine.proofs.OpenLemmas.{loaded_more, only_one, all_loaded, IsKept-opened, from_ok}
+use Rattle.elf_image.specs.Start.{start_ram}
+use Rattle.elf_image.proofs.StartLemmas.{loaded_more, all_loaded}
+use Rattle.ppc_machine.proofs.OpenLemmas.{only_one, IsKept-opened, from_ok}
 use Rattle.ppc_machine.proofs.machines.Machine.open.Goals as goal
 
 pub loop-segment-init : goal.loop-segment-init

@@ -1,5 +1,5 @@
 use Rattle.std.proofs.Common.{◌≡◌, ◌*◌, length, take, replicate}
-use Rattle.ppc_machine.specs.Start.{loaded}
+use Rattle.elf_image.specs.Start.{loaded}
 use Rattle.ppc_machine.proofs.machines.Machine.open.Given as goal
 
 -- the first segments lie in zeros
