@@ -1,1 +1,2 @@
 mod ThreadTexts
+mod WordLemmas

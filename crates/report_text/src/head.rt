@@ -23,7 +23,7 @@ fn kind_name(kind: RowKind) -> &'static [u8]
 }
 
 /// The name of a stop.
-fn stop_name(name: StopName) -> &'static [u8]
+pub(crate) fn stop_name(name: StopName) -> &'static [u8]
     ensures name { result.now ≡ stop_name name }
     ensures most { length result.now ≤ 15 }
 {
