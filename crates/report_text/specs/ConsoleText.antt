@@ -35,10 +35,14 @@ escaped bytes = flat_map escape bytes
 abbrev pub console_head : ℕ → ℕ → List ℕ
 console_head slot count = codes "console " ++ decimal slot ++ codes " " ++ decimal count ++ codes " "
 
+-- the parts of a line that shows these bytes of a slot
+abbrev pub console_parts : ℕ → List ℕ → List (List ℕ)
+console_parts slot bytes = console_head slot (length bytes) ∷ escaped bytes ∷ end_of_line ∷ []
+
 -- the line that shows the bytes of a slot; none where there is no byte
 abbrev pub console_line : ℕ → List ℕ → List ℕ
 console_line slot [] = []
-console_line slot (byte ∷ bytes) = text_of (console_head slot (length (byte ∷ bytes)) ∷ escaped (byte ∷ bytes) ∷ end_of_line ∷ [])
+console_line slot (byte ∷ bytes) = text_of (console_parts slot (byte ∷ bytes))
 
 -- the lines of all slots that show a byte, by their numbers
 unfoldable pub console_lines : List DeviceRow → List (List ℕ)

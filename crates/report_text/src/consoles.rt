@@ -1,6 +1,6 @@
 //! The lines that show what devices showed.
 
-ghost use Rattle.std.specs.Prelude.{◌≡◌, ◌+◌, ◌-◌, ◌≤◌, ◌<◌, ◌++◌, ℕ, [], ◌∷◌, length, take, slice_index};
+ghost use Rattle.std.specs.Prelude.{◌≡◌, ◌+◌, ◌-◌, ◌^◌, ◌≤◌, ◌<◌, ◌++◌, ℕ, [], ◌∷◌, length, take, slice_index};
 ghost use Rattle.outer_io.specs.Outside.{Puts};
 ghost use Rattle.line_text.specs.Text.{text_of};
 ghost use Rattle.report_text.specs.ConsoleText.{signal_bytes, console_bytes, escape, escaped, console_head, console_line, console_lines};
@@ -15,6 +15,16 @@ const SLOTS: usize = 256;
 /// How many device rows a piece of a console's line covers at most: a byte of each takes four bytes at most.
 const PIECE_ROWS: u32 = 100;
 
+/// Counts the byte that a row shows, if any.
+fn count_row(counts: &mut [u32; SLOTS], row: &DeviceRow)
+    requires { (slot : ℕ) → slot < 256 → slice_index counts.old slot < 2 ^ 32 - 1 }
+    ensures { (slot : ℕ) → slot < 256 → slice_index counts.new slot ≡ slice_index counts.old slot + length (console_bytes slot (row.now ∷ [])) }
+{
+    if let Signal::Byte(_) = row.signal {
+        counts[row.slot as usize] += 1;
+    }
+}
+
 /// How many bytes the device of each slot shows.
 fn count_bytes(journal: &Journal) -> [u32; SLOTS]
     ensures { (slot : ℕ) → slot < 256 → slice_index result slot ≡ length (console_bytes slot journal.now.rows.devices) }
@@ -22,9 +32,7 @@ fn count_bytes(journal: &Journal) -> [u32; SLOTS]
     let mut counts = [0u32; SLOTS];
     for k in 0..journal.counts().devices {
         if let Some(row) = journal.device(k) {
-            if let Signal::Byte(_) = row.signal {
-                counts[row.slot as usize] += 1;
-            }
+            count_row(&mut counts, row);
         }
     }
     counts
@@ -106,7 +114,12 @@ fn console_head(slot: u8, count: u32) -> Line
 }
 
 /// Puts the line of a slot that shows so many bytes; none where there is no byte.
-fn put_console<K: Sink>(slot: u8, count: u32, journal: &Journal, out: &mut K) -> Result<(), SinkFault>
+fn put_console<K: Sink>(
+    slot: u8,
+    count: u32,
+    journal: &Journal,
+    out: &mut K,
+) -> Result<(), SinkFault>
     requires { count ≡ length (console_bytes slot journal.now.rows.devices) }
     ensures { Puts (K.told out.old) (K.told out.new) (K.faults out.old) (K.faults out.new) result (console_line slot (console_bytes slot journal.now.rows.devices)) }
 {
@@ -122,7 +135,8 @@ fn put_console<K: Sink>(slot: u8, count: u32, journal: &Journal, out: &mut K) ->
 pub(crate) fn put_consoles<K: Sink>(journal: &Journal, out: &mut K) -> Result<(), SinkFault>
     ensures { Puts (K.told out.old) (K.told out.new) (K.faults out.old) (K.faults out.new) result (text_of (console_lines journal.now.rows.devices)) }
 {
-    for (slot, count) in count_bytes(journal).iter().enumerate() {
+    let counts = count_bytes(journal);
+    for (slot, count) in counts.iter().enumerate() {
         put_console(slot as u8, *count, journal, out)?;
     }
     Ok(())

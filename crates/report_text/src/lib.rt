@@ -4,14 +4,14 @@
 mod access_lines;
 mod consoles;
 mod head;
-mod step_ends;
 mod report;
+mod step_ends;
 mod step_lines;
 mod thread_lines;
 mod words;
 
-pub use step_ends::{LineEnd, line_end};
 pub use report::{ReportParts, print_report};
+pub use step_ends::{LineEnd, line_end};
 
 #[cfg(test)]
 mod tests;

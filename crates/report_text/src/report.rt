@@ -50,11 +50,7 @@ fn put_threads<K: Sink>(threads: &[Thread], out: &mut K) -> Result<(), SinkFault
 }
 
 /// Puts lines, where they are asked for.
-fn put_lines_if<L: Lines, K: Sink>(
-    asked: bool,
-    lines: &L,
-    out: &mut K,
-) -> Result<(), SinkFault>
+fn put_lines_if<L: Lines, K: Sink>(asked: bool, lines: &L, out: &mut K) -> Result<(), SinkFault>
     ensures { Puts (K.told out.old) (K.told out.new) (K.faults out.old) (K.faults out.new) result (lines_if asked (L.lines lines.now)) }
 {
     if asked {
@@ -66,11 +62,7 @@ fn put_lines_if<L: Lines, K: Sink>(
 /// Puts the report of a machine, whose LPIDR and PIDR keep to their widths; with `trace` also its step rows, write rows and
 /// device rows. Each line is one piece but those of consoles, which are more; no piece holds bytes of two lines. Stops at the
 /// first fault of the sink, which then has a front of the report. Takes no memory.
-pub fn print_report<K: Sink>(
-    parts: &ReportParts,
-    trace: bool,
-    out: &mut K,
-) -> Result<(), SinkFault>
+pub fn print_report<K: Sink>(parts: &ReportParts, trace: bool, out: &mut K) -> Result<(), SinkFault>
     requires { AreWithinWidths parts.now.threads.now }
     ensures { Puts (K.told out.old) (K.told out.new) (K.faults out.old) (K.faults out.new) result
         (report parts.now.end parts.now.threads.now parts.now.journal.now.rows (record { trace = trace })) }
