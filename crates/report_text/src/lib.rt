@@ -14,4 +14,6 @@ pub use report::{ReportParts, print_report};
 pub use step_ends::{LineEnd, line_end};
 
 #[cfg(test)]
+mod row_tests;
+#[cfg(test)]
 mod tests;
