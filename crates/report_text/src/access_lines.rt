@@ -8,20 +8,19 @@ use crate::words::{push_decimal, push_hex, push_word};
 use journal_core::{DeviceRow, Journal, Signal, WriteRow};
 use line_text::{Line, Lines};
 
-/// The line of a write row.
-fn write_line(row: &WriteRow) -> Line
-    ensures { result ≡ line_of (write_words row.now) }
+/// Makes a line that of a write row.
+fn fill_write_line(line: &mut Line, row: &WriteRow)
+    ensures { line.new ≡ line_of (write_words row.now) }
 {
-    let mut line = Line::new();
+    line.clear();
     line.push(b'w');
-    push_decimal(&mut line, u64::from(row.step));
-    push_decimal(&mut line, u64::from(row.thread));
-    push_hex(&mut line, 16, row.at);
-    push_decimal(&mut line, u64::from(row.size));
-    push_hex(&mut line, 16, row.old);
-    push_hex(&mut line, 16, row.new);
+    push_decimal(line, u64::from(row.step));
+    push_decimal(line, u64::from(row.thread));
+    push_hex(line, 16, row.at);
+    push_decimal(line, u64::from(row.size));
+    push_hex(line, 16, row.old);
+    push_hex(line, 16, row.new);
     line.push(b'\n');
-    line
 }
 
 /// The name of an access.
@@ -52,21 +51,20 @@ fn push_signal(line: &mut Line, signal: Signal)
     }
 }
 
-/// The line of a device row.
-fn device_line(row: &DeviceRow) -> Line
-    ensures { result ≡ line_of (device_words row.now) }
+/// Makes a line that of a device row.
+fn fill_device_line(line: &mut Line, row: &DeviceRow)
+    ensures { line.new ≡ line_of (device_words row.now) }
 {
-    let mut line = Line::new();
+    line.clear();
     line.push(b'd');
-    push_decimal(&mut line, u64::from(row.step));
-    push_decimal(&mut line, u64::from(row.slot));
-    push_hex(&mut line, 8, u64::from(row.offset));
-    push_decimal(&mut line, u64::from(row.size));
-    push_word(&mut line, access_name(row.store));
-    push_hex(&mut line, 16, row.value);
-    push_signal(&mut line, row.signal);
+    push_decimal(line, u64::from(row.step));
+    push_decimal(line, u64::from(row.slot));
+    push_hex(line, 8, u64::from(row.offset));
+    push_decimal(line, u64::from(row.size));
+    push_word(line, access_name(row.store));
+    push_hex(line, 16, row.value);
+    push_signal(line, row.signal);
     line.push(b'\n');
-    line
 }
 
 /// The lines of the write rows of a journal.
@@ -83,10 +81,9 @@ impl Lines for WriteLines<'_> {
         self.journal.counts().writes
     }
 
-    fn line(&self, k: u32) -> Line {
-        match self.journal.write(k) {
-            Some(row) => write_line(row),
-            None => Line::new(),
+    fn line(&self, k: u32, line: &mut Line) {
+        if let Some(row) = self.journal.write(k) {
+            fill_write_line(line, row);
         }
     }
 }
@@ -105,10 +102,9 @@ impl Lines for DeviceLines<'_> {
         self.journal.counts().devices
     }
 
-    fn line(&self, k: u32) -> Line {
-        match self.journal.device(k) {
-            Some(row) => device_line(row),
-            None => Line::new(),
+    fn line(&self, k: u32, line: &mut Line) {
+        if let Some(row) = self.journal.device(k) {
+            fill_device_line(line, row);
         }
     }
 }

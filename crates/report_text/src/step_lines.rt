@@ -99,22 +99,21 @@ fn push_uses(line: &mut Line, uses: &[Use; 3])
     }
 }
 
-/// The line of a step row with its number.
-fn step_line(number: u32, row: &StepRow) -> Line
-    ensures { result ≡ step_line number row.now }
+/// Makes a line that of a step row with its number.
+fn fill_step_line(line: &mut Line, number: u32, row: &StepRow)
+    ensures { line.new ≡ step_line number row.now }
 {
     let end = line_end(row.end);
-    let mut line = Line::new();
+    line.clear();
     line.push(b's');
-    push_decimal(&mut line, u64::from(number));
-    push_decimal(&mut line, u64::from(row.thread));
-    push_word(&mut line, end_name(end));
-    push_hex(&mut line, 16, row.cia);
-    push_instruction(&mut line, row.word);
-    push_end(&mut line, end);
-    push_uses(&mut line, &row.uses);
+    push_decimal(line, u64::from(number));
+    push_decimal(line, u64::from(row.thread));
+    push_word(line, end_name(end));
+    push_hex(line, 16, row.cia);
+    push_instruction(line, row.word);
+    push_end(line, end);
+    push_uses(line, &row.uses);
     line.push(b'\n');
-    line
 }
 
 /// The lines of the step rows of a journal.
@@ -131,10 +130,9 @@ impl Lines for StepLines<'_> {
         self.journal.counts().steps
     }
 
-    fn line(&self, k: u32) -> Line {
-        match self.journal.step(k) {
-            Some(row) => step_line(k, row),
-            None => Line::new(),
+    fn line(&self, k: u32, line: &mut Line) {
+        if let Some(row) = self.journal.step(k) {
+            fill_step_line(line, k, row);
         }
     }
 }
