@@ -73,7 +73,7 @@ fn push_shown(line: &mut Line, slot: u8, row: &DeviceRow)
 /// What the rows from `from` up to `end` show of a slot.
 fn piece(slot: u8, journal: &Journal, from: u32, end: u32) -> Line
     requires order { from ≤ end }
-    requires most { end ≤ from + 100 }
+    requires most { end ≤ from + PIECE_ROWS }
     requires rows { end ≤ length journal.now.rows.devices }
     ensures { escaped (console_bytes slot (take from journal.now.rows.devices)) ++ result ≡ escaped (console_bytes slot (take end journal.now.rows.devices)) }
 {

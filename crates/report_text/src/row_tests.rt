@@ -132,6 +132,17 @@ fn shown(slot: u8, byte: u8) -> DeviceRow
     stored(0, slot, 0, 1, u64::from(byte), Signal::Byte(byte))
 }
 
+/// Puts the report of a thread at its start, with these rows.
+fn report_to<K: Sink>(journal: &Journal, trace: bool, out: &mut K) -> Result<(), SinkFault> {
+    let threads = Threads::reset(1, 0x1_0000);
+    let parts = ReportParts {
+        threads: &threads,
+        journal,
+        end: Ended::AllRun,
+    };
+    print_report(&parts, trace, out)
+}
+
 #[test]
 fn a_store_across_a_page_has_two_write_rows(rt: HostRuntime) -> Result<(), Fail> {
     let mut journal = Journal::open(rt.alloc(), 4)?;
@@ -159,14 +170,8 @@ fn a_store_across_a_page_has_two_write_rows(rt: HostRuntime) -> Result<(), Fail>
     journal.push_write(written(2, 0x2_0000));
     journal.push_step(ran(0x1_0008, 0xf864_fffc, pages));
     journal.push_step(ran(0x1_000c, 0xe8a4_fffc, again));
-    let threads = Threads::reset(1, 0x1_0000);
-    let parts = ReportParts {
-        threads: &threads,
-        journal: &journal,
-        end: Ended::AllRun,
-    };
     let mut out = MemSink::open(rt.alloc(), 8192)?;
-    assert_eq!(rt; print_report(&parts, true, &mut out), Ok(()));
+    assert_eq!(rt; report_to(&journal, true, &mut out), Ok(()));
     assert!(rt; out.bytes().ends_with(STORE_ACROSS_A_PAGE.as_bytes()));
     Ok(())
 }
@@ -193,21 +198,14 @@ fn each_kind_of_step_has_its_words(rt: HostRuntime) -> Result<(), Fail> {
         walked,
     ));
     journal.push_step(stopped(0x2_0000, None, StopName::GuestZero, 0, [Use::Unused; 3]));
-    let threads = Threads::reset(4, 0x1_0000);
-    let parts = ReportParts {
-        threads: &threads,
-        journal: &journal,
-        end: Ended::AllRun,
-    };
     let mut out = MemSink::open(rt.alloc(), 8192)?;
-    assert_eq!(rt; print_report(&parts, true, &mut out), Ok(()));
+    assert_eq!(rt; report_to(&journal, true, &mut out), Ok(()));
     assert!(rt; out.bytes().ends_with(EACH_KIND_OF_STEP.as_bytes()));
     Ok(())
 }
 
 #[test]
 fn each_stop_has_its_name(rt: HostRuntime) -> Result<(), Fail> {
-    let threads = Threads::reset(1, 0);
     for (name, want) in [
         (StopName::NoStorage, "NoStorage 0000000000000009 - - -\n.\n"),
         (
@@ -250,13 +248,8 @@ fn each_stop_has_its_name(rt: HostRuntime) -> Result<(), Fail> {
     ] {
         let mut journal = Journal::open(rt.alloc(), 1)?;
         journal.push_step(stopped(0, None, name, 9, [Use::Unused; 3]));
-        let parts = ReportParts {
-            threads: &threads,
-            journal: &journal,
-            end: Ended::AllRun,
-        };
         let mut out = MemSink::open(rt.alloc(), 8192)?;
-        assert_eq!(rt; print_report(&parts, true, &mut out), Ok(()));
+        assert_eq!(rt; report_to(&journal, true, &mut out), Ok(()));
         assert!(rt; out.bytes().ends_with(want.as_bytes()));
     }
     Ok(())
@@ -272,14 +265,8 @@ fn each_signal_has_its_words(rt: HostRuntime) -> Result<(), Fail> {
     journal.push_device(stored(1, 1, 8, 8, 0, Signal::Eject(0)));
     journal.push_device(loaded(1, 2, 6));
     journal.push_device(stored(1, 7, u32::MAX, 4, 0xffff_ffff, Signal::Stop));
-    let threads = Threads::reset(1, 0x1_0000);
-    let parts = ReportParts {
-        threads: &threads,
-        journal: &journal,
-        end: Ended::AllRun,
-    };
     let mut out = MemSink::open(rt.alloc(), 8192)?;
-    assert_eq!(rt; print_report(&parts, true, &mut out), Ok(()));
+    assert_eq!(rt; report_to(&journal, true, &mut out), Ok(()));
     assert!(rt; out.bytes().ends_with(EACH_SIGNAL.as_bytes()));
     Ok(())
 }
@@ -297,14 +284,8 @@ fn consoles_show_their_own_bytes(rt: HostRuntime) -> Result<(), Fail> {
     journal.push_device(shown(7, 0x1f));
     journal.push_device(shown(2, b'~'));
     journal.push_device(shown(2, b' '));
-    let threads = Threads::reset(1, 0x1_0000);
-    let parts = ReportParts {
-        threads: &threads,
-        journal: &journal,
-        end: Ended::AllRun,
-    };
     let mut out = MemSink::open(rt.alloc(), 8192)?;
-    assert_eq!(rt; print_report(&parts, false, &mut out), Ok(()));
+    assert_eq!(rt; report_to(&journal, false, &mut out), Ok(()));
     assert!(rt; out.bytes().ends_with(TWO_CONSOLES.as_bytes()));
     Ok(())
 }
@@ -341,22 +322,16 @@ impl Sink for PieceSink {
 #[test]
 fn no_piece_has_bytes_of_two_lines(rt: HostRuntime) -> Result<(), Fail> {
     let mut journal = Journal::open(rt.alloc(), 250)?;
-    for _k in 0..250u32 {
-        journal.push_device(shown(3, 0x80));
+    for k in 0..250u32 {
+        journal.push_device(stored(0, 3, k, 1, 0x80, Signal::Byte(0x80)));
     }
     journal.push_step(ran(0x1_0000, 0x9864_0000, [Use::Unused; 3]));
-    let threads = Threads::reset(1, 0x1_0000);
-    let parts = ReportParts {
-        threads: &threads,
-        journal: &journal,
-        end: Ended::AllRun,
-    };
     let mut out = PieceSink {
         pieces: 0,
         lines: 0,
         has_bytes_of_two_lines: false,
     };
-    assert_eq!(rt; print_report(&parts, true, &mut out), Ok(()));
+    assert_eq!(rt; report_to(&journal, true, &mut out), Ok(()));
     assert_eq!(rt; out.lines, 4 + 20 + 1 + 1 + 250 + 1);
     assert!(rt; out.pieces > out.lines + 2);
     assert!(rt; !out.has_bytes_of_two_lines);
@@ -369,23 +344,17 @@ fn a_fault_at_any_put_leaves_a_front(rt: HostRuntime) -> Result<(), Fail> {
     journal.push_step(ran(0x1_0000, 0x9864_0000, [Use::Unused; 3]));
     journal.push_write(written(1, 0x2_0000));
     journal.push_device(stored(1, 0, 0, 1, 0x41, Signal::Byte(0x41)));
-    let threads = Threads::reset(1, 0x1_0000);
-    let parts = ReportParts {
-        threads: &threads,
-        journal: &journal,
-        end: Ended::AllRun,
-    };
     let mut whole = MemSink::open(rt.alloc(), 8192)?;
-    assert_eq!(rt; print_report(&parts, true, &mut whole), Ok(()));
+    assert_eq!(rt; report_to(&journal, true, &mut whole), Ok(()));
     for call in 1..32u32 {
         let mut out = MemSink::open(rt.alloc(), 8192)?;
         out.fail_call(call, 1)?;
-        assert_eq!(rt; print_report(&parts, true, &mut out), Err(SinkFault));
+        assert_eq!(rt; report_to(&journal, true, &mut out), Err(SinkFault));
         assert!(rt; whole.bytes().starts_with(out.bytes()));
         assert!(rt; out.bytes().len() < whole.bytes().len());
     }
     let mut out = MemSink::open(rt.alloc(), 8192)?;
     out.fail_call(32, 1)?;
-    assert_eq!(rt; print_report(&parts, true, &mut out), Ok(()));
+    assert_eq!(rt; report_to(&journal, true, &mut out), Ok(()));
     Ok(())
 }
