@@ -1,6 +1,6 @@
 //! A line of text in a fixed buffer.
 
-ghost use Rattle.std.specs.Prelude.{◌≡◌, ◌+◌, ◌^◌, ◌≤◌, ◌<◌, ◌++◌, [], ◌∷◌, length};
+ghost use Rattle.std.specs.Prelude.{◌≡◌, ◌+◌, ◌%◌, ◌^◌, ◌≤◌, ◌<◌, ◌++◌, [], ◌∷◌, length};
 ghost use Rattle.std.specs.Fmt.{decimal};
 ghost use Rattle.line_text.specs.Text.{hex, glyph};
 
@@ -49,6 +49,13 @@ impl Line {
         }
     }
 
+    /// Takes all bytes out of the line.
+    pub fn clear(&mut self)
+        ensures { self.new ≡ [] }
+    {
+        self.len = 0;
+    }
+
     /// The bytes of the line.
     pub fn as_slice(&self) -> &[u8]
         ensures { result.now ≡ self.now }
@@ -88,6 +95,15 @@ impl Line {
         self.push_low_hex(width, value);
     }
 
+    /// Adds the lowest digit of a number in base 16, which must have room.
+    fn push_digit(&mut self, value: u64)
+        requires { length self.old < 512 }
+        ensures text { self.new ≡ self.old ++ glyph (value % 16) ∷ [] }
+        ensures len { length self.new ≡ length self.old + 1 }
+    {
+        self.push(glyph_of((value % 16) as u8));
+    }
+
     /// Adds the lowest `width` digits of a number in base 16, which must have room. For a register
     /// that has no more bits than those digits show, though its type has.
     pub fn push_low_hex(&mut self, width: u8, value: u64)
@@ -95,9 +111,15 @@ impl Line {
         ensures text { self.new ≡ self.old ++ hex width value }
         ensures len { length self.new ≡ length self.old + width }
     {
-        if width > 0 {
+        if width >= 4 {
+            self.push_low_hex(width - 4, value / 65_536);
+            self.push_digit(value / 4096);
+            self.push_digit(value / 256);
+            self.push_digit(value / 16);
+            self.push_digit(value);
+        } else if width > 0 {
             self.push_low_hex(width - 1, value / 16);
-            self.push(glyph_of((value % 16) as u8));
+            self.push_digit(value);
         }
     }
 

@@ -16,18 +16,20 @@ pub trait Lines {
     fn count(&self) -> u32
         ensures { result ≡ length (lines self.now) };
 
-    /// Line `k`, which is below the count.
-    fn line(&self, k: u32) -> Line
+    /// Makes `line` the line `k`, which is below the count, whatever it was.
+    fn line(&self, k: u32, line: &mut Line)
         requires { k < length (lines self.now) }
-        ensures { slice_get (lines self.now) k ≡ Some result };
+        ensures { slice_get (lines self.now) k ≡ Some line.new };
 }
 
 /// Puts the lines one after another, each as one piece. Stops at the first fault of the sink.
 pub fn print_lines<L: Lines, K: Sink>(lines: &L, out: &mut K) -> Result<(), SinkFault>
     ensures { Puts (K.told out.old) (K.told out.new) (K.faults out.old) (K.faults out.new) result (text_of (L.lines lines.now)) }
 {
+    let mut line = Line::new();
     for k in 0..lines.count() {
-        out.put(lines.line(k).as_slice())?;
+        lines.line(k, &mut line);
+        out.put(line.as_slice())?;
     }
     Ok(())
 }

@@ -57,14 +57,13 @@ impl Lines for TwoLines {
         2
     }
 
-    fn line(&self, k: u32) -> Line {
-        let mut line = Line::new();
+    fn line(&self, k: u32, line: &mut Line) {
+        line.clear();
         if k == 0 {
             line.push_bytes(b"one\n");
-            return line;
+        } else {
+            line.push_bytes(b"two\n");
         }
-        line.push_bytes(b"two\n");
-        line
     }
 }
 

@@ -2,3 +2,4 @@ pub mod Files
 pub mod Refusals
 pub mod RunsOf
 pub mod LawsLemmas
+pub mod ConsoleLemmas

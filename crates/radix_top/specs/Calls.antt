@@ -1,5 +1,5 @@
 -- What a call answers, what it prints, and the machine that it leaves.
-use Rattle.std.specs.Prelude.{◌≡◌, ◌⊎◌, ◌<◌, ◌≤◌, ℕ, List, length, Option, Some, None, IfSome, Ok}
+use Rattle.std.specs.Prelude.{◌≡◌, ◌⊎◌, ◌<◌, ◌≤◌, ℕ, false, List, length, Option, Some, None, IfSome, Ok}
 use Rattle.outer_io.specs.Outside.{CountRose, added, AddsFront}
 use Rattle.journal_core.specs.Steps.{first_steps}
 use Rattle.journal_core.specs.Ends.{ended_of, thread_of_row}
@@ -47,7 +47,7 @@ pub record IsRunOf (m : FilesSeen) (words : List Text) (machine : MachineView) (
 
 -- the report of a machine whose run had this end
 abbrev pub report_of : MachineView → Ended → List ℕ
-report_of machine end = report end machine.threads machine.journal.rows
+report_of machine end = report end machine.threads machine.journal.rows (record { trace = false })
 
 -- the command was run to this end, and the report was printed whole
 pub record Ran (m : FilesSeen) (words : List Text) (machine : Option MachineView) (old new : Option (List ℕ)) (end : Ended) : Type 0 where

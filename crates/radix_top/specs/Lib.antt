@@ -6,3 +6,4 @@ pub mod Causes
 pub mod Calls
 pub mod Printed
 pub mod Laws
+pub mod Showing

@@ -49,7 +49,7 @@ fn run_ready<K: Sink>(machine: Machine, ready: &RunInputs, out: &mut K, bench: &
         journal: machine.journal(),
         end: ended,
     };
-    let printed = print_report(&parts, out);
+    let printed = print_report(&parts, false, out);
     bench.machine = Some(machine);
     match printed {
         Ok(()) => ended_status(ended),

@@ -1,1 +1,3 @@
 mod ThreadTexts
+mod WordLemmas
+mod ConsoleLemmas

@@ -23,7 +23,7 @@ fn kind_name(kind: RowKind) -> &'static [u8]
 }
 
 /// The name of a stop.
-fn stop_name(name: StopName) -> &'static [u8]
+pub(crate) fn stop_name(name: StopName) -> &'static [u8]
     ensures name { result.now ≡ stop_name name }
     ensures most { length result.now ≤ 15 }
 {
@@ -130,12 +130,12 @@ impl Lines for HeadLines {
         4
     }
 
-    fn line(&self, k: u32) -> Line {
-        match k {
+    fn line(&self, k: u32, line: &mut Line) {
+        *line = match k {
             0 => first_line(),
             1 => end_line(self.end),
             2 => steps_line(self.steps),
             _ => tb_line(self.tb),
-        }
+        };
     }
 }

@@ -1,11 +1,19 @@
 //! The report of a machine, as text.
 #![tactic(auto)]
 
+mod access_lines;
+mod consoles;
 mod head;
 mod report;
+mod step_ends;
+mod step_lines;
 mod thread_lines;
+mod words;
 
 pub use report::{ReportParts, print_report};
+pub use step_ends::{LineEnd, line_end};
 
+#[cfg(test)]
+mod row_tests;
 #[cfg(test)]
 mod tests;

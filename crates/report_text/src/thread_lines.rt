@@ -208,9 +208,9 @@ impl Lines for ThreadLines<'_> {
     }
 
     #[tactic(auto, unfolding(crate::specs::ThreadText::thread_lines))]
-    fn line(&self, k: u32) -> Line {
+    fn line(&self, k: u32, line: &mut Line) {
         let thread = self.thread;
-        match k {
+        *line = match k {
             0 => thread_line(self.number),
             1 => nia_line(thread),
             2 => cr_line(thread),
@@ -231,6 +231,6 @@ impl Lines for ThreadLines<'_> {
             17 => lpcr_line(thread),
             18 => amr_line(thread),
             _ => sprg_line(thread),
-        }
+        };
     }
 }

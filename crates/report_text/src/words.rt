@@ -1,0 +1,37 @@
+//! The words of a line.
+
+ghost use Rattle.std.specs.Prelude.{◌≡◌, ◌+◌, ◌≤◌, ◌<◌, ◌^◌, ◌++◌, length, codes};
+ghost use Rattle.std.specs.Fmt.{decimal};
+ghost use Rattle.line_text.specs.Text.{hex};
+
+use line_text::Line;
+
+/// Adds a word behind a space.
+pub(crate) fn push_word(line: &mut Line, word: &[u8])
+    requires { length line.old + length word.now + 1 ≤ 512 }
+    ensures text { line.new ≡ line.old ++ codes " " ++ word.now }
+    ensures len { length line.new ≡ length line.old + length word.now + 1 }
+{
+    line.push(b' ');
+    line.push_bytes(word);
+}
+
+/// Adds a number in decimal behind a space.
+pub(crate) fn push_decimal(line: &mut Line, value: u64)
+    requires { length line.old + 21 ≤ 512 }
+    ensures text { line.new ≡ line.old ++ codes " " ++ decimal value }
+    ensures len { length line.new ≤ length line.old + 21 }
+{
+    line.push(b' ');
+    line.push_number(value);
+}
+
+/// Adds the lowest `width` digits of a number in base 16 behind a space.
+pub(crate) fn push_hex(line: &mut Line, width: u8, value: u64)
+    requires { length line.old + width + 1 ≤ 512 }
+    ensures text { line.new ≡ line.old ++ codes " " ++ hex width value }
+    ensures len { length line.new ≡ length line.old + width + 1 }
+{
+    line.push(b' ');
+    line.push_low_hex(width, value);
+}
