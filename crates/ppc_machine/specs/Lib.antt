@@ -7,8 +7,8 @@ pub use Rattle.journal_core.specs.Runs
 pub use Rattle.journal_core.specs.Ends
 pub use Rattle.ppc_step.specs.States
 pub use Rattle.ppc_step.specs.Rule
-pub mod Start
-pub mod Endings
+pub mod Plugging
 pub mod MachineView
+pub mod Opening
 pub mod Inside
 pub mod Machines
