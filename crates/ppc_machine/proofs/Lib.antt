@@ -1,5 +1,1 @@
-pub mod OpenLemmas
-pub mod StepLemmas
-pub mod ViewLemmas
-pub mod RunLemmas
-pub mod QuietLemmas
+
