@@ -1,0 +1,25 @@
+use Rattle.std.proofs.Common.{rules, ◌≡◌, ◌<◌, ◌≤◌, ◌*◌, ◌^◌, [], None, length, IfOk, ℕ, ◌+◌, ◌-◌, ◌/◌, ◌%◌, Bool, true, false, nat_eq, nat_lt, List, ◌∷◌, ◌++◌, slice_index_or, slice_set, bit_and, bit_or, Fits, w8, w32, w64, Bor, MutBor}
+use Rattle.journal_core.specs.Bytes.{IsBytes}
+use Rattle.journal_core.specs.Rows.{no_rows}
+use Rattle.elf_image.specs.Places.{bad_place_of}
+use Rattle.elf_image.specs.Start as starts
+use Rattle.ppc_bus.specs.Windows.{windows_of}
+use Rattle.ppc_machine.specs.Plugging.{windows_for, plugged_windows}
+use Rattle.ppc_machine.specs.Opening as opening
+use Rattle.ppc_machine.proofs.opening.load_image.Goals as goal
+
+-- src/opening.rt:88:5
+pub loop-segment-init : goal.loop-segment-init
+loop-segment-init c = ?
+
+-- src/opening.rt:88:5
+pub loop-segment-preserved : goal.loop-segment-preserved
+loop-segment-preserved c = ?
+
+-- src/opening.rt:82:1
+pub returns-clause-ram : goal.returns-clause-ram
+returns-clause-ram c = ?
+
+-- src/opening.rt:82:1
+pub returns-clause-size : goal.returns-clause-size
+returns-clause-size c = ?
