@@ -198,7 +198,7 @@ impl<D: Device> MachineOf<D> {
                 Ok(thread) => thread,
                 Err(ended) => return ended,
             };
-            let _ = self.step(thread);
+            let _ = ppc_step::step(&mut self.parts, thread);
         }
     }
 }
