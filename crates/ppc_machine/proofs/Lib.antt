@@ -1,2 +1,4 @@
 pub mod ViewLemmas
 pub mod RunLemmas
+pub mod OpenLemmas
+pub mod PlugLemmas
