@@ -1,4 +1,5 @@
 use Rattle.std.proofs.Common.{◌≡◌, ◌<◌, length, Some, None, refl, sym, ap, ◌∙◌, arith, [], subst}
+use Rattle.std.specs.Prelude.{IfSome}
 use Rattle.journal_core.specs.Rows.{JournalView}
 use Rattle.journal_core.specs.Steps.{IsDated}
 use Rattle.journal_core.specs.Runs.{state_after}
@@ -42,7 +43,9 @@ returns-in-Err g c = record {
 }
 
 pub step-requires-clause-thread : goal.step-requires-clause-thread
-step-requires-clause-thread g c = ?
+step-requires-clause-thread g c =
+    let below : c.in-Ok.thread < c.args.schedule.now.threads = subst (λ o. IfSome o (λ t. t < c.args.schedule.now.threads)) c.in-Ok.ensures.goes.1 c.turn-next.ensures.below in
+    omega (arith, below, c.requires.threads, c.loop-thread.invariant.count)
 
 pub step-requires-clause-most : goal.step-requires-clause-most
 step-requires-clause-most g c = c.loop-thread.invariant.kept.most
