@@ -4,11 +4,11 @@ use Rattle.journal_core.specs.declared.rows.WriteRow.{WriteRow}
 use Rattle.journal_core.specs.declared.rows.DeviceRow.{DeviceRow}
 use Rattle.journal_core.specs.declared.rows.Signal.{Signal}
 use Rattle.journal_core.specs.declared.rows.StepEnd.{StepEnd}
-use Rattle.journal_core.specs.declared.rows.StepEnd.TheVariants.{Ran, Took, Stopped}
+use Rattle.journal_core.specs.declared.rows.StepEnd.TheVariants.{Ran, Stopped}
 use Rattle.journal_core.specs.Past.{ram_after, AreWrites}
 use Rattle.journal_core.specs.Rows.{JournalView}
 use Rattle.journal_core.specs.Steps.{add_device}
-use Rattle.form_outcomes.specs.Outcomes.{Outcome, Goes, Takes, Stops, end_of}
+use Rattle.form_outcomes.specs.Outcomes.{Outcome, Goes, Stops, end_of}
 use Rattle.ppc_bus.specs.Windows.{Window}
 use Rattle.ppc_bus.specs.Chains.{Chain}
 use Rattle.ppc_bus.specs.Devices.{load_row, store_row}
@@ -19,7 +19,7 @@ use Rattle.storage_ops.specs.declared.parts.Parts.{Parts}
 use Rattle.storage_ops.specs.Parts.{listed, listed_second, bytes_of_second, AreParts}
 use Rattle.journal_core.specs.declared.rows.StopName.{StopName}
 use Rattle.storage_ops.specs.Checks.{device_of, unless_refused}
-use Rattle.storage_ops.specs.Effects.{After, Stored, DeviceAsk, registers, behind, asked_at, writes_of, AreAsked, AreAskedBy, answer_in, end_with, end_by, windows_by, windows_after}
+use Rattle.storage_ops.specs.Effects.{After, Stored, registers, behind, asked_at, writes_of, AreAsked, AreAskedBy, end_by, windows_by}
 use Rattle.storage_ops.specs.Accesses.{Scene, scene_of, with_writes, IsCarried, Carries}
 
 rows_more : JournalView → List WriteRow → List DeviceRow → JournalView

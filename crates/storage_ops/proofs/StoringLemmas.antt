@@ -102,15 +102,17 @@ split-right step thread ram p None value size within some more whole most =
     (row-right step thread ram p.at p.size (value % 256 ^ p.size) some (omega (arith, whole, most)) within.0 (mod-lt value (power-some p.size)), tt)
 split-right step thread ram p (Some q) value size within some more whole most =
     let row = write_row step thread ram p.at p.size (value % 256 ^ p.size) in
-    let same : length (written ram row) ≡ length ram = length-row ram row within.0 in
-    (row-right step thread ram p.at p.size (value % 256 ^ p.size) some (omega (arith, whole, most)) within.0 (mod-lt value (power-some p.size)),
-     (row-right step thread (written ram row) q.at q.size (value / 256 ^ p.size % 256 ^ q.size) more (omega (arith, whole, most)) (rw same within.1.0) (mod-lt (value / 256 ^ p.size) (power-some q.size)), tt))
+    let same : length (written ram row) ≡ length ram = length-row ram row within.0 in (
+      row-right step thread ram p.at p.size (value % 256 ^ p.size) some (omega (arith, whole, most)) within.0 (mod-lt value (power-some p.size)),
+      (row-right step thread (written ram row) q.at q.size (value / 256 ^ p.size % 256 ^ q.size) more (omega (arith, whole, most)) (rw same within.1.0) (mod-lt (value / 256 ^ p.size) (power-some q.size)), tt),
+    )
 
 pub zeros-right : (step thread : ℕ) (ram : List ℕ) (count at : ℕ) → at + 8 * count ≤ length ram → AreWrites ram (writes_of step thread ram (zeros count at))
 unfolding AreWrites
 zeros-right step thread ram zero at within = tt
 zeros-right step thread ram (suc count) at within =
     let row = write_row step thread ram at 8 0 in
-    let same : length (written ram row) ≡ length ram = length-row ram row (omega (arith, within)) in
-    (row-right step thread ram at 8 0 (omega arith) (omega arith) (omega (arith, within)) (power-some 8),
-     zeros-right step thread (written ram row) count (at + 8) (rw same (omega (arith, within))))
+    let same : length (written ram row) ≡ length ram = length-row ram row (omega (arith, within)) in (
+      row-right step thread ram at 8 0 (omega arith) (omega arith) (omega (arith, within)) (power-some 8),
+      zeros-right step thread (written ram row) count (at + 8) (rw same (omega (arith, within))),
+    )

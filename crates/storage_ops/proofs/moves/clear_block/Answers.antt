@@ -1,4 +1,4 @@
-use Rattle.std.proofs.Common.{◌≡◌, ℕ, List, [], ◌∷◌, length, Option, Some, None, false, ap, sym, ◌∙◌, refl}
+use Rattle.std.proofs.Common.{◌≡◌, length, Some, None, false, ap, sym, ◌∙◌, refl}
 use Rattle.journal_core.specs.declared.rows.StepEnd.TheVariants.{Ran}
 use Rattle.form_outcomes.specs.Outcomes.{Goes}
 use Rattle.storage_ops.specs.Parts.{listed}
