@@ -108,7 +108,15 @@ impl<D: Device> MachineOf<D> {
     {
         let mut measured = BusOf::new();
         let slice = devices.as_slice();
-        if let Some(reason) = refusal_for(image, guests, ram_mib, threads, slice, steps, &mut measured) {
+        if let Some(reason) = refusal_for(
+            image,
+            guests,
+            ram_mib,
+            threads,
+            slice,
+            steps,
+            &mut measured,
+        ) {
             return Err(OpenFaultOf { devices, reason });
         }
         let (store, journal) = match take_memory(alloc, image, guests, ram_mib, steps) {
@@ -118,13 +126,15 @@ impl<D: Device> MachineOf<D> {
                 return Err(OpenFaultOf { devices, reason });
             }
         };
+        let mut bus = BusOf::new();
+        plug_all(devices, &mut bus);
         Ok(MachineOf {
             entry: image.entry,
             measured,
             parts: Parts {
                 threads: Threads::reset(threads, image.entry),
                 store,
-                bus: plug_all(devices),
+                bus,
                 journal,
                 translator: Plain::new(),
             },
