@@ -126,15 +126,13 @@ impl<D: Device> MachineOf<D> {
                 return Err(OpenFaultOf { devices, reason });
             }
         };
-        let mut bus = BusOf::new();
-        plug_all(devices, &mut bus);
         Ok(MachineOf {
             entry: image.entry,
             measured,
             parts: Parts {
                 threads: Threads::reset(threads, image.entry),
                 store,
-                bus,
+                bus: plug_all(devices),
                 journal,
                 translator: Plain::new(),
             },

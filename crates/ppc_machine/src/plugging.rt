@@ -69,16 +69,17 @@ pub fn measure_windows<D: Device>(
     }
 }
 
-/// Plugs some devices into an empty bus, none of which is refused.
-pub fn plug_all<D: Device>(devices: Vec<PluggedOf<D>>, bus: &mut BusOf<D>)
-    requires empty { bus.old ≡ [] }
-    requires fine { plugging.first_refused 0 [] (plugging.windows_for D.window_size devices.items) ≡ None }
-    ensures { bus.new ≡ plugging.slots_for D.window_size devices.items }
+/// A bus with some devices, none of which is refused.
+pub fn plug_all<D: Device>(devices: Vec<PluggedOf<D>>) -> BusOf<D>
+    requires { plugging.first_refused 0 [] (plugging.windows_for D.window_size devices.items) ≡ None }
+    ensures { result ≡ plugging.slots_for D.window_size devices.items }
 {
+    let mut bus = BusOf::new();
     for plugged in devices {
         match bus.plug(plugged.at, plugged.device) {
             Ok(_) => {}
             Err(_) => unreachable!(),
         }
     }
+    bus
 }

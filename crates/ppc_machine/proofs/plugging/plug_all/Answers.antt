@@ -6,7 +6,7 @@ use Rattle.ppc_machine.proofs.PlugLemmas.{not_refused, slots_for-push}
 use Rattle.ppc_machine.proofs.plugging.plug_all.Goals as goal
 
 pub loop-plugged-init : goal.loop-plugged-init
-loop-plugged-init g c = record { slots = c.requires.empty; split = c.into_iter-plugged-iterator.ensures.into_iter_gives.0 }
+loop-plugged-init g c = record { slots = c.new-bus.ensures; split = c.into_iter-plugged-iterator.ensures.into_iter_gives.0 }
 
 pub loop-plugged-preserved : goal.loop-plugged-preserved
 loop-plugged-preserved g c =
@@ -20,7 +20,7 @@ pub unreachable-requires : goal.unreachable-requires
 unreachable-requires g c =
     let steps = c.in-Some.ensures.steps in
     let split : c.loop-plugged.yielded ++ c.in-Some.plugged ∷ c.next.new.self.rest.items ≡ c.args.devices.items = ap (λ ps. c.loop-plugged.yielded ++ ps) (sym steps.0) ∙ c.loop-plugged.invariant.split in
-    none-some c.in-Err.field-0.reason (sym (not_refused g.D.Device.window_size c.args.devices.items c.loop-plugged.yielded c.next.new.self.rest.items c.in-Some.plugged c.loop-plugged.bus c.requires.fine split c.loop-plugged.invariant.slots) ∙ sym c.in-Err.ensures.reason)
+    none-some c.in-Err.field-0.reason (sym (not_refused g.D.Device.window_size c.args.devices.items c.loop-plugged.yielded c.next.new.self.rest.items c.in-Some.plugged c.loop-plugged.bus c.requires split c.loop-plugged.invariant.slots) ∙ sym c.in-Err.ensures.reason)
 
 pub returns : goal.returns
 returns g c =
