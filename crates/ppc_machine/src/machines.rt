@@ -108,7 +108,15 @@ impl<D: Device> MachineOf<D> {
     {
         let mut measured = BusOf::new();
         let slice = devices.as_slice();
-        if let Some(reason) = refusal_for(image, guests, ram_mib, threads, slice, steps, &mut measured) {
+        if let Some(reason) = refusal_for(
+            image,
+            guests,
+            ram_mib,
+            threads,
+            slice,
+            steps,
+            &mut measured,
+        ) {
             return Err(OpenFaultOf { devices, reason });
         }
         let (store, journal) = match take_memory(alloc, image, guests, ram_mib, steps) {

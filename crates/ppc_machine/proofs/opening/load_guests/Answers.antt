@@ -32,4 +32,3 @@ pub returns : goal.returns
 returns c =
     let now = all_with_guests c.args.store.now.ram c.loop-guest.store.ram c.as_slice-guest-items.result.now c.loop-guest.guest-index c.loop-guest-test.false c.loop-guest.invariant.ram in
     record { ram = rw (now, c.as_slice-guest-items.ensures) refl }
-

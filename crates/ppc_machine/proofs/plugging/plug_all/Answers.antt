@@ -1,6 +1,6 @@
 use Rattle.std.proofs.Common.{rules, ◌≡◌, ◌++◌, [], ◌∷◌, Some, None, refl, sym, ap, ◌∙◌, append_assoc}
 use Rattle.std.proofs.lemmas.Option.{none-some}
-use Rattle.std.proofs.lemmas.List.{append-nil}
+use Rattle.std.proofs.lemmas.List.{append-nil, nil_from_length}
 use Rattle.ppc_machine.specs.Plugging as plugging
 use Rattle.ppc_machine.proofs.PlugLemmas.{not_refused, slots_for-push}
 use Rattle.ppc_machine.proofs.plugging.plug_all.Goals as goal
@@ -23,4 +23,7 @@ unreachable-requires g c =
     none-some c.in-Err.field-0.reason (sym (not_refused g.D.Device.window_size c.args.devices.items c.loop-plugged.yielded c.next.new.self.rest.items c.in-Some.plugged c.loop-plugged.bus c.requires split c.loop-plugged.invariant.slots) ∙ sym c.in-Err.ensures.reason)
 
 pub returns : goal.returns
-returns g c = ?
+returns g c =
+    let none : c.loop-plugged.plugged-iterator.rest.items ≡ [] = nil_from_length c.loop-plugged.plugged-iterator.rest.items (sym c.loop-plugged.plugged-iterator.rest.ok.0 ∙ c.in-None.ensures.steps.0) in
+    let all : c.loop-plugged.yielded ≡ c.args.devices.items = sym (append-nil c.loop-plugged.yielded) ∙ ap (λ ps. c.loop-plugged.yielded ++ ps) (sym none) ∙ c.loop-plugged.invariant.split in
+    c.loop-plugged.invariant.slots ∙ ap (plugging.slots_for g.D.Device.window_size) all
