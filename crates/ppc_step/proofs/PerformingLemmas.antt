@@ -118,16 +118,22 @@ answered_then chooses number moment ram ask asks old mid new found founds is sta
     λ past stands at. ap (λ m. past m at) steps ∙ stands at in
     record {
       adds = adds_then old mid new one rest.adds;
-      answers = λ past stands stood. (mark_of mid.rows, no_fewer old mid one,
-          subst (λ f. IsAnswer past (query_of (record { rows = new.rows; floor = f; thread = number; step = n }) (past n) (mark_of old.rows) ask) found (mark_of mid.rows)) (sym floor)
-          (answer_goes_on past (query_of (turn_in mid number n) (past n) (mark_of old.rows) ask) new.rows found (mark_of mid.rows) on (whole mid) (a1 past stands stood)),
-          subst (λ m. AreAnswered (λ before ask found after. IsAnswer past (query_of (turn_in new number m) (past m) before ask) found after) (mark_of mid.rows) asks founds (mark_of new.rows)) steps
-          (rest.answers past (later past stands) (mid_true past stands stood)));
+      answers = λ past stands stood. (
+        mark_of mid.rows,
+        no_fewer old mid one,
+        subst (λ f. IsAnswer past (query_of (record { rows = new.rows; floor = f; thread = number; step = n }) (past n) (mark_of old.rows) ask) found (mark_of mid.rows)) (sym floor)
+            (answer_goes_on past (query_of (turn_in mid number n) (past n) (mark_of old.rows) ask) new.rows found (mark_of mid.rows) on (whole mid) (a1 past stands stood)),
+        subst (λ m. AreAnswered (λ before ask found after. IsAnswer past (query_of (turn_in new number m) (past m) before ask) found after) (mark_of mid.rows) asks founds (mark_of new.rows)) steps
+            (rest.answers past (later past stands) (mid_true past stands stood)),
+      );
       truth = λ past stands stood. rest.truth past (later past stands) (mid_true past stands stood);
-      chosen = λ word stands. (mark_of mid.rows, no_fewer old mid one,
-          subst (λ f. chooses (query_of (record { rows = new.rows; floor = f; thread = number; step = n }) word (mark_of old.rows) ask) found (mark_of mid.rows)) (sym floor)
-          (stays (query_of (turn_in mid number n) word (mark_of old.rows) ask) new.rows found (mark_of mid.rows) on (whole mid) named (c1 word stands)),
-          subst (λ m. AreAnswered (λ before ask found after. chooses (query_of (turn_in new number m) word before ask) found after) (mark_of mid.rows) asks founds (mark_of new.rows)) steps (rest.chosen word stands));
+      chosen = λ word stands. (
+        mark_of mid.rows,
+        no_fewer old mid one,
+        subst (λ f. chooses (query_of (record { rows = new.rows; floor = f; thread = number; step = n }) word (mark_of old.rows) ask) found (mark_of mid.rows)) (sym floor)
+            (stays (query_of (turn_in mid number n) word (mark_of old.rows) ask) new.rows found (mark_of mid.rows) on (whole mid) named (c1 word stands)),
+        subst (λ m. AreAnswered (λ before ask found after. chooses (query_of (turn_in new number m) word before ask) found after) (mark_of mid.rows) asks founds (mark_of new.rows)) steps (rest.chosen word stands),
+      );
     }
 
 -- ---- steps

@@ -70,4 +70,3 @@ returns-in-Unsupported-clause-executed g c =
     (λ answer. sym (outcome_by c.args.word c.args.thread.now (around (g.B.Port.windows c.args.bus.now) c.args.store.now.ram [] answer) (Unsupported) is))
     (carries_nothing g.B.Port.related g.B.Port.windows c.args.number (λ answer. unsupported c.args.word) c.args.thread.now c.args.store.now.ram c.args.bus.now c.args.journal.now (Stopped stops.Unsupported c.args.word) refl refl))
     (c.without_uses-in-Unsupported.ensures ∙ ap shown c.unsupported.ensures)
-
