@@ -28,6 +28,7 @@ pub fn ram_with(alloc: Global, at: u64, word: u32) -> Result<Store, Fail> {
 }
 
 /// One step of a thread with an empty journal, over a control at 10000000.
+#[tactic(auto, unfolding(journal_core::specs::Steps::InOrder))]
 pub fn step_over(alloc: Global, threads: Threads, number: u8, store: Store) -> Result<Left, Fail> {
     let mut bus = Bus::new();
     let control: Box<dyn Device> = Box::new(alloc, Control::new())?;
