@@ -161,7 +161,7 @@ fn a_step_that_a_device_stops_is_done_whole(rt: HostRuntime) -> Result<(), Fail>
 
 #[test]
 fn any_other_stop_changes_nothing_but_the_journal(rt: HostRuntime) -> Result<(), Fail> {
-    // lhau r5,-16(r4) across a border of the device's sizes, std r3,0(r4) behind RAM and a word of no form
+    // lhau r5,-16(r4) of a device at an odd address, std r3,0(r4) behind RAM, and a word of no form
     let cases = [
         (
             0x1000_0017,
