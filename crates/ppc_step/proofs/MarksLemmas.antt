@@ -5,7 +5,7 @@ use Rattle.journal_core.specs.declared.rows.ReadRow.{ReadRow}
 use Rattle.journal_core.specs.declared.rows.FillRow.{FillRow}
 use Rattle.journal_core.specs.declared.rows.WriteRow.{WriteRow}
 use Rattle.journal_core.specs.declared.rows.DeviceRow.{DeviceRow}
-use Rattle.journal_core.specs.Rows.{Rows, JournalView, no_rows}
+use Rattle.journal_core.specs.Rows.{Rows, JournalView}
 use Rattle.journal_core.specs.Steps.{StepRows, InOrder, IsDated, IsOwn, first_steps, with_own, add_step}
 use Rattle.journal_core.specs.Past.{write_row, written}
 use Rattle.journal_core.specs.Turns.{Mark, mark_of}

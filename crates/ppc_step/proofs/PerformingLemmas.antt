@@ -1,10 +1,9 @@
 -- A step from its fetch and what comes behind it.
-use Rattle.std.proofs.Common.{◌≡◌, ℕ, ◌+◌, ◌*◌, ◌≤◌, List, [], ◌∷◌, ◌++◌, length, Option, Some, None, arith, ap, sym, ◌∙◌, refl, subst, length-append, append_assoc, append-nil}
+use Rattle.std.proofs.Common.{◌≡◌, ℕ, ◌+◌, ◌≤◌, List, [], ◌∷◌, ◌++◌, length, Option, Some, None, arith, ap, sym, ◌∙◌, refl, subst, length-append, append_assoc, append-nil}
 use Rattle.std.specs.List.{AllByRecursion}
 use Rattle.journal_core.specs.declared.asks.Ask.{Ask}
 use Rattle.journal_core.specs.declared.asks.Found.{Found}
-use Rattle.journal_core.specs.declared.asks.Found.TheVariants.{Real, Fault, Stop}
-use Rattle.journal_core.specs.declared.causes.Cause.{Cause}
+use Rattle.journal_core.specs.declared.asks.Found.TheVariants.{Real}
 use Rattle.journal_core.specs.declared.rows.DeviceRow.{DeviceRow}
 use Rattle.journal_core.specs.declared.rows.ReadRow.{ReadRow}
 use Rattle.journal_core.specs.declared.rows.FillRow.{FillRow}
@@ -27,13 +26,13 @@ use Rattle.storage_ops.specs.declared.accesses.StorageOut.{StorageOut}
 use Rattle.storage_ops.specs.Reaching.{reached, first_use, second_use}
 use Rattle.storage_ops.specs.Answering.{AddsWalks, IsAnswered}
 use Rattle.storage_ops.specs.Effects.{After, around, registers, behind}
-use Rattle.storage_ops.specs.Accesses.{Scene, scene_of, Carries, Performs}
+use Rattle.storage_ops.specs.Accesses.{Scene, scene_of, Performs}
 use Rattle.storage_ops.proofs.AnsweringLemmas.{IsOneAnswer, IsOneChoice, answered_once}
 use Rattle.storage_ops.proofs.MovesLemmas.{carries_nothing}
 use Rattle.ppc_step.specs.declared.stepping.Ending.{Ending}
 use Rattle.ppc_step.specs.States.{fetch_ask, word_at}
 use Rattle.ppc_step.specs.Words.{word_outcome, word_asks}
-use Rattle.ppc_step.specs.Steps.{word_by, word_unless, fetched, behind_first, data_asks, asks_unless_pending, step_asks, found_outcome, outcome_unless, step_outcome, fetched_outcome}
+use Rattle.ppc_step.specs.Steps.{word_by, word_unless, data_asks, asks_unless_pending, step_asks, found_outcome, outcome_unless, step_outcome, fetched_outcome}
 use Rattle.ppc_step.specs.Performing.{PerformsStep}
 use Rattle.ppc_step.proofs.ExecutedLemmas.{carries_same}
 

@@ -1,10 +1,10 @@
 -- A step that was performed, with its row, is one step by the rule.
-use Rattle.std.proofs.Common.{◌≡◌, ℕ, ◌<◌, ◌≤◌, List, [], ◌++◌, length, Option, refl, sym, ap, ◌∙◌, subst, arith}
+use Rattle.std.proofs.Common.{◌≡◌, ℕ, ◌<◌, ◌≤◌, List, [], length, Option, refl, sym, ap, ◌∙◌, subst}
 use Rattle.journal_core.specs.declared.asks.Found.{Found}
 use Rattle.journal_core.specs.declared.rows.DeviceRow.{DeviceRow}
 use Rattle.journal_core.specs.declared.rows.StepRow.{StepRow}
 use Rattle.journal_core.specs.Past.{past, word_in}
-use Rattle.journal_core.specs.Rows.{Rows, JournalView}
+use Rattle.journal_core.specs.Rows.{JournalView}
 use Rattle.journal_core.specs.Room.{HasRoom, most_steps}
 use Rattle.journal_core.specs.Standing.{AreNamed}
 use Rattle.journal_core.specs.Steps.{StepRows, IsDated, IsOwn, add_step, with_own}
