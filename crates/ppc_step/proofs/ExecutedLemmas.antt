@@ -1,5 +1,5 @@
 -- What is executed, from what its parts come to.
-use Rattle.std.proofs.Common.{◌≡◌, ℕ, ◌+◌, ◌<◌, nat_lt, List, [], ◌∷◌, ◌++◌, length, Option, Bool, true, false, arith, ap, sym, ◌∙◌, refl, subst, length-append}
+use Rattle.std.proofs.Common.{◌≡◌, ℕ, ◌+◌, nat_lt, List, [], ◌∷◌, ◌++◌, length, Option, Bool, true, false, arith, ap, sym, ◌∙◌, refl, subst, length-append}
 use Rattle.std.proofs.lemmas.Bool.Decides.{nat_tests}
 use Rattle.journal_core.specs.declared.asks.Ask.{Ask}
 use Rattle.journal_core.specs.declared.asks.Found.{Found}
@@ -19,7 +19,7 @@ use Rattle.storage_ops.specs.declared.accesses.StorageOut.{StorageOut}
 use Rattle.storage_ops.specs.Reaching.{and_then}
 use Rattle.storage_ops.specs.Answering.{IsAnswered}
 use Rattle.storage_ops.specs.Effects.{After, registers, behind, writes_of, AreAsked, answer_in, end_with}
-use Rattle.storage_ops.specs.Accesses.{Scene, scene_of, IsCarried, Carries, Performs}
+use Rattle.storage_ops.specs.Accesses.{Scene, scene_of, Carries, Performs}
 use Rattle.storage_ops.proofs.MovesLemmas.{carries_plain, carries_nothing}
 use Rattle.storage_ops.proofs.AccessesLemmas.{answered_never}
 use Rattle.ppc_step.specs.Words.{alone, onward}

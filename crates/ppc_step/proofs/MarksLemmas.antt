@@ -5,7 +5,7 @@ use Rattle.journal_core.specs.declared.rows.ReadRow.{ReadRow}
 use Rattle.journal_core.specs.declared.rows.FillRow.{FillRow}
 use Rattle.journal_core.specs.declared.rows.WriteRow.{WriteRow}
 use Rattle.journal_core.specs.declared.rows.DeviceRow.{DeviceRow}
-use Rattle.journal_core.specs.Rows.{Rows, JournalView, no_rows}
+use Rattle.journal_core.specs.Rows.{Rows, JournalView}
 use Rattle.journal_core.specs.Steps.{StepRows, InOrder, IsDated, IsOwn, first_steps, with_own, add_step}
 use Rattle.journal_core.specs.Past.{write_row, written}
 use Rattle.journal_core.specs.Turns.{Mark, mark_of}
@@ -94,4 +94,4 @@ journal_with old between new own none first second =
     ap (λ (j : JournalView). record j { rows = add_step j.rows own.row }) second
     ∙ (ap (λ (j : JournalView). record j { rows = add_step (record j.rows { writes = j.rows.writes ++ own.writes; devices = j.rows.devices ++ own.devices }) own.row }) first
     ∙ ap (λ xs. record old { rows = record { reads = old.rows.reads ++ own.reads; fills = old.rows.fills ++ own.fills; writes = old.rows.writes ++ own.writes; dones = xs; devices = old.rows.devices ++ own.devices; steps = old.rows.steps ++ own.row ∷ [] } })
-      (sym (append-nil old.rows.dones) ∙ ap (λ ds. old.rows.dones ++ ds) (sym none)))
+    (sym (append-nil old.rows.dones) ∙ ap (λ ds. old.rows.dones ++ ds) (sym none)))

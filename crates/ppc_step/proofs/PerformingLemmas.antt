@@ -1,10 +1,9 @@
 -- A step from its fetch and what comes behind it.
-use Rattle.std.proofs.Common.{◌≡◌, ℕ, ◌+◌, ◌*◌, ◌≤◌, List, [], ◌∷◌, ◌++◌, length, Option, Some, None, arith, ap, sym, ◌∙◌, refl, subst, length-append, append_assoc, append-nil}
+use Rattle.std.proofs.Common.{◌≡◌, ℕ, ◌+◌, ◌≤◌, List, [], ◌∷◌, ◌++◌, length, Option, Some, None, arith, ap, sym, ◌∙◌, refl, subst, length-append, append_assoc, append-nil}
 use Rattle.std.specs.List.{AllByRecursion}
 use Rattle.journal_core.specs.declared.asks.Ask.{Ask}
 use Rattle.journal_core.specs.declared.asks.Found.{Found}
-use Rattle.journal_core.specs.declared.asks.Found.TheVariants.{Real, Fault, Stop}
-use Rattle.journal_core.specs.declared.causes.Cause.{Cause}
+use Rattle.journal_core.specs.declared.asks.Found.TheVariants.{Real}
 use Rattle.journal_core.specs.declared.rows.DeviceRow.{DeviceRow}
 use Rattle.journal_core.specs.declared.rows.ReadRow.{ReadRow}
 use Rattle.journal_core.specs.declared.rows.FillRow.{FillRow}
@@ -27,13 +26,13 @@ use Rattle.storage_ops.specs.declared.accesses.StorageOut.{StorageOut}
 use Rattle.storage_ops.specs.Reaching.{reached, first_use, second_use}
 use Rattle.storage_ops.specs.Answering.{AddsWalks, IsAnswered}
 use Rattle.storage_ops.specs.Effects.{After, around, registers, behind}
-use Rattle.storage_ops.specs.Accesses.{Scene, scene_of, Carries, Performs}
+use Rattle.storage_ops.specs.Accesses.{Scene, scene_of, Performs}
 use Rattle.storage_ops.proofs.AnsweringLemmas.{IsOneAnswer, IsOneChoice, answered_once}
 use Rattle.storage_ops.proofs.MovesLemmas.{carries_nothing}
 use Rattle.ppc_step.specs.declared.stepping.Ending.{Ending}
 use Rattle.ppc_step.specs.States.{fetch_ask, word_at}
 use Rattle.ppc_step.specs.Words.{word_outcome, word_asks}
-use Rattle.ppc_step.specs.Steps.{word_by, word_unless, fetched, behind_first, data_asks, asks_unless_pending, step_asks, found_outcome, outcome_unless, step_outcome, fetched_outcome}
+use Rattle.ppc_step.specs.Steps.{word_by, word_unless, data_asks, asks_unless_pending, step_asks, found_outcome, outcome_unless, step_outcome, fetched_outcome}
 use Rattle.ppc_step.specs.Performing.{PerformsStep}
 use Rattle.ppc_step.proofs.ExecutedLemmas.{carries_same}
 
@@ -118,16 +117,22 @@ answered_then chooses number moment ram ask asks old mid new found founds is sta
     λ past stands at. ap (λ m. past m at) steps ∙ stands at in
     record {
       adds = adds_then old mid new one rest.adds;
-      answers = λ past stands stood. (mark_of mid.rows, no_fewer old mid one,
-          subst (λ f. IsAnswer past (query_of (record { rows = new.rows; floor = f; thread = number; step = n }) (past n) (mark_of old.rows) ask) found (mark_of mid.rows)) (sym floor)
-          (answer_goes_on past (query_of (turn_in mid number n) (past n) (mark_of old.rows) ask) new.rows found (mark_of mid.rows) on (whole mid) (a1 past stands stood)),
-          subst (λ m. AreAnswered (λ before ask found after. IsAnswer past (query_of (turn_in new number m) (past m) before ask) found after) (mark_of mid.rows) asks founds (mark_of new.rows)) steps
-          (rest.answers past (later past stands) (mid_true past stands stood)));
+      answers = λ past stands stood. (
+        mark_of mid.rows,
+        no_fewer old mid one,
+        subst (λ f. IsAnswer past (query_of (record { rows = new.rows; floor = f; thread = number; step = n }) (past n) (mark_of old.rows) ask) found (mark_of mid.rows)) (sym floor)
+            (answer_goes_on past (query_of (turn_in mid number n) (past n) (mark_of old.rows) ask) new.rows found (mark_of mid.rows) on (whole mid) (a1 past stands stood)),
+        subst (λ m. AreAnswered (λ before ask found after. IsAnswer past (query_of (turn_in new number m) (past m) before ask) found after) (mark_of mid.rows) asks founds (mark_of new.rows)) steps
+            (rest.answers past (later past stands) (mid_true past stands stood)),
+      );
       truth = λ past stands stood. rest.truth past (later past stands) (mid_true past stands stood);
-      chosen = λ word stands. (mark_of mid.rows, no_fewer old mid one,
-          subst (λ f. chooses (query_of (record { rows = new.rows; floor = f; thread = number; step = n }) word (mark_of old.rows) ask) found (mark_of mid.rows)) (sym floor)
-          (stays (query_of (turn_in mid number n) word (mark_of old.rows) ask) new.rows found (mark_of mid.rows) on (whole mid) named (c1 word stands)),
-          subst (λ m. AreAnswered (λ before ask found after. chooses (query_of (turn_in new number m) word before ask) found after) (mark_of mid.rows) asks founds (mark_of new.rows)) steps (rest.chosen word stands));
+      chosen = λ word stands. (
+        mark_of mid.rows,
+        no_fewer old mid one,
+        subst (λ f. chooses (query_of (record { rows = new.rows; floor = f; thread = number; step = n }) word (mark_of old.rows) ask) found (mark_of mid.rows)) (sym floor)
+            (stays (query_of (turn_in mid number n) word (mark_of old.rows) ask) new.rows found (mark_of mid.rows) on (whole mid) named (c1 word stands)),
+        subst (λ m. AreAnswered (λ before ask found after. chooses (query_of (turn_in new number m) word before ask) found after) (mark_of mid.rows) asks founds (mark_of new.rows)) steps (rest.chosen word stands),
+      );
     }
 
 -- ---- steps

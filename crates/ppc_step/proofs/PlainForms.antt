@@ -1,6 +1,5 @@
 -- Forms that work on registers alone, among all.
-use Rattle.std.proofs.Common.{◌≡◌, ℕ, ℤ, List, [], Option, Some, None, Bool, true, false, if◌then◌else◌, ap, sym, ◌∙◌, refl, subst}
-use Rattle.journal_core.specs.declared.asks.Ask.{Ask}
+use Rattle.std.proofs.Common.{◌≡◌, ℕ, ℤ, [], Some, None, true, false, if◌then◌else◌, ap, sym, ◌∙◌, refl, subst}
 use Rattle.journal_core.specs.declared.causes.Cause.{Cause}
 use Rattle.form_outcomes.specs.Outcomes.{Outcome, Takes, unless, unsupported}
 use Rattle.storage_ops.specs.AccessTable.{access_form}

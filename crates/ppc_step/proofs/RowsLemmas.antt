@@ -1,8 +1,6 @@
 -- How a step ends by its outcome, and the readings of a journal with its rows.
-use Rattle.std.proofs.Common.{◌≡◌, ℕ, ◌+◌, ◌<◌, ◌≤◌, Bool, true, false, List, [], ◌∷◌, ◌++◌, length, Option, Some, None, refl, sym, ap, ◌∙◌, subst, arith, length-append}
+use Rattle.std.proofs.Common.{◌≡◌, ℕ, ◌+◌, ◌≤◌, Bool, true, false, List, [], ◌∷◌, ◌++◌, length, Option, refl, sym, ap, ◌∙◌, subst, arith, length-append}
 use Rattle.std.specs.List.{AllByRecursion}
-use Rattle.journal_core.specs.declared.causes.Cause.{Cause}
-use Rattle.journal_core.specs.declared.rows.StopName.{StopName}
 use Rattle.journal_core.specs.declared.rows.ReadRow.{ReadRow}
 use Rattle.journal_core.specs.declared.rows.WriteRow.{WriteRow}
 use Rattle.journal_core.specs.declared.rows.DeviceRow.{DeviceRow}

@@ -1,5 +1,5 @@
 -- The state that a step leaves.
-use Rattle.std.proofs.Common.{◌≡◌, ℕ, ◌+◌, ◌≤◌, Bool, true, false, if◌then◌else◌, List, [], ◌∷◌, length, Option, Some, None, refl, sym, ap, ◌∙◌, subst, arith}
+use Rattle.std.proofs.Common.{◌≡◌, ℕ, ◌≤◌, Bool, true, false, if◌then◌else◌, List, [], ◌∷◌, length, Option, Some, None, refl, sym, ap, ◌∙◌, arith}
 use Rattle.std.specs.Prelude.{◌⊎◌}
 use Rattle.std.specs.List.{AllByRecursion}
 use Rattle.journal_core.specs.declared.causes.Cause.{Cause}
@@ -21,11 +21,10 @@ use Rattle.journal_core.specs.Answers.{IsHit, IsWalked, IsAnswer, AreAnswered, u
 use Rattle.form_outcomes.specs.Outcomes.{Outcome, Goes, Takes, Stops}
 use Rattle.ppc_bus.specs.Windows.{Window}
 use Rattle.thread_regs.specs.declared.registers.Thread.{Thread}
-use Rattle.thread_regs.specs.Registers.{thread_at}
 use Rattle.interrupts.specs.PendingCauses.{pending_cause}
 use Rattle.storage_ops.specs.Reaching.{reached, first_use, second_use}
 use Rattle.storage_ops.specs.Effects.{After, around, behind, answer_in, windows_after}
-use Rattle.ppc_step.specs.States.{State, state_of, fetch_ask, word_at}
+use Rattle.ppc_step.specs.States.{State, state_of, word_at}
 use Rattle.ppc_step.specs.Words.{word_asks, word_outcome}
 use Rattle.ppc_step.specs.Steps.{word_unless, word_by, behind_first, data_asks, asks_unless_pending, step_asks, fetched, fetched_outcome, found_outcome, outcome_unless, step_outcome, ticked_with, is_done, threads_undone, threads_after}
 use Rattle.ppc_step.specs.Rule.{thread_in, all_shown, data_uses, registers_behind, behind_step, next_state}

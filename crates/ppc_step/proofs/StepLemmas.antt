@@ -1,10 +1,10 @@
 -- A step that was performed, with its row, is one step by the rule.
-use Rattle.std.proofs.Common.{◌≡◌, ℕ, ◌<◌, ◌≤◌, List, [], ◌++◌, length, Option, refl, sym, ap, ◌∙◌, subst, arith}
+use Rattle.std.proofs.Common.{◌≡◌, ℕ, ◌<◌, ◌≤◌, List, [], length, Option, refl, sym, ap, ◌∙◌, subst}
 use Rattle.journal_core.specs.declared.asks.Found.{Found}
 use Rattle.journal_core.specs.declared.rows.DeviceRow.{DeviceRow}
 use Rattle.journal_core.specs.declared.rows.StepRow.{StepRow}
 use Rattle.journal_core.specs.Past.{past, word_in}
-use Rattle.journal_core.specs.Rows.{Rows, JournalView}
+use Rattle.journal_core.specs.Rows.{JournalView}
 use Rattle.journal_core.specs.Room.{HasRoom, most_steps}
 use Rattle.journal_core.specs.Standing.{AreNamed}
 use Rattle.journal_core.specs.Steps.{StepRows, IsDated, IsOwn, add_step, with_own}
@@ -47,8 +47,7 @@ own_of chooses related windows number old new e performed = record {
 
 -- a step that was performed, whose row comes then
 module _ {P : Type 0} (chooses : Query → Found → Mark → Type 0) (related : P → DeviceRow → P → Type 0) (windows : P → List (Option Window)) (number : ℕ) (threads threads' : List Thread) (old new : Scene P) (e : Ending)
-  (performed : PerformsStep chooses related windows number old new e) (dated : IsDated old.journal.rows) (thread : old.thread ≡ thread_at threads number) where
-
+    (performed : PerformsStep chooses related windows number old new e) (dated : IsDated old.journal.rows) (thread : old.thread ≡ thread_at threads number) where
   abbrev own : StepRows
   own = own_of chooses related windows number old new e performed
 
@@ -99,7 +98,6 @@ module _ {P : Type 0} (chooses : Query → Found → Mark → Type 0) (related :
 
   -- where all before it was ready the step keeps the rule
   module _ (begin : State) (made : List (PastStep State)) (ready : IsReady begin old.journal.rows made s) where
-
     stand : (at : ℕ) → past begin.ram old.journal.rows.writes own.number at ≡ word_in old.ram at
     stand = stands begin.ram old.ram old.journal.rows dated ready.ram
 

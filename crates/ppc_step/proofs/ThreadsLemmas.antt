@@ -1,5 +1,5 @@
 -- The threads behind a step.
-use Rattle.std.proofs.Common.{◌≡◌, ℕ, zero, suc, ◌<◌, ◌≤◌, List, [], ◌∷◌, length, map, slice_get, slice_set, slice_index_or, Option, Some, None, Bool, true, false, arith, ap, sym, ◌∙◌, refl, subst}
+use Rattle.std.proofs.Common.{◌≡◌, ℕ, zero, suc, ◌<◌, List, [], ◌∷◌, length, slice_get, slice_set, slice_index_or, Some, Bool, true, false, arith, ap, sym, ◌∙◌, refl}
 use Rattle.std.proofs.lemmas.List.{length-set, length-map}
 use Rattle.std.specs.List.{AllByRecursion}
 use Rattle.journal_core.specs.declared.rows.DeviceRow.{DeviceRow}
@@ -16,9 +16,9 @@ use Rattle.thread_regs.specs.declared.registers.Thread.{Thread}
 use Rattle.thread_regs.specs.Registers.{reset, thread_at}
 use Rattle.interrupts.specs.Clock.{ticked, all_ticked}
 use Rattle.interrupts.specs.Delivery.{delivered}
-use Rattle.storage_ops.specs.Effects.{After, registers, behind, AreAsked, end_with, end_by}
+use Rattle.storage_ops.specs.Effects.{After, behind, AreAsked, end_with, end_by}
 use Rattle.ppc_step.specs.States.{ptcrs_of}
-use Rattle.ppc_step.specs.Steps.{threads_after, threads_undone, ticked_with, is_done}
+use Rattle.ppc_step.specs.Steps.{threads_after, is_done}
 use Rattle.ppc_step.specs.Performing.{is_asked, threads_by}
 
 set_back : {A : Type 0} (xs : List A) (i : ℕ) (d : A) → i < length xs → slice_set xs i (slice_index_or xs i d) ≡ xs

@@ -10,7 +10,7 @@ use Rattle.journal_core.specs.declared.asks.Found.{Found}
 use Rattle.journal_core.specs.Rows.{Rows, JournalView}
 use Rattle.journal_core.specs.Steps.{StepRows, IsDated, IsOwn, with_own}
 use Rattle.journal_core.specs.Standing.{AreNamed}
-use Rattle.journal_core.specs.Turns.{Mark, Query, query_of, Turn, turn_of, turn_in, mark_of}
+use Rattle.journal_core.specs.Turns.{Mark, Query, query_of, turn_of, turn_in, mark_of}
 use Rattle.journal_core.specs.Choice.{IsFault, IsStop}
 use Rattle.journal_core.specs.Early.{IsUntranslated}
 use Rattle.journal_core.specs.Answers.{IsHit, IsWalked, IsAnswer, AreAnswered, uses_of, mark_at, AnswersUses, KeepsUses, ChoosesUses}

@@ -7,13 +7,12 @@ use Rattle.journal_core.specs.declared.rows.StepEnd.TheVariants.{Ran, Took, Stop
 use Rattle.journal_core.specs.Rows.{JournalView}
 use Rattle.journal_core.specs.Turns.{Mark, Query}
 use Rattle.journal_core.specs.Answers.{uses_of}
-use Rattle.form_outcomes.specs.Outcomes.{Outcome}
 use Rattle.ppc_ops.specs.declared.insn.Insn.{Insn}
 use Rattle.ppc_bus.specs.Windows.{Window}
 use Rattle.storage_ops.specs.declared.accesses.StorageOut.{StorageOut}
 use Rattle.storage_ops.specs.Reaching.{reached}
 use Rattle.storage_ops.specs.Answering.{IsAnswered}
-use Rattle.storage_ops.specs.Effects.{After, around}
+use Rattle.storage_ops.specs.Effects.{around}
 use Rattle.storage_ops.specs.Accesses.{Scene, Carries, Performs}
 use Rattle.ppc_step.specs.declared.stepping.Ending.{Ending}
 use Rattle.ppc_step.specs.Words.{form_outcome, form_asks, word_outcome, word_asks}

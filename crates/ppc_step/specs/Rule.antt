@@ -21,7 +21,7 @@ use Rattle.form_outcomes.specs.Outcomes.{Outcome, Goes, Takes, Stops}
 use Rattle.ppc_bus.specs.Chains.{Chain}
 use Rattle.thread_regs.specs.declared.registers.Thread.{Thread}
 use Rattle.thread_regs.specs.Registers.{thread_at}
-use Rattle.storage_ops.specs.Effects.{After, around, registers, behind, writes_of, AreAsked, answer_in, end_with, windows_after}
+use Rattle.storage_ops.specs.Effects.{After, around, behind, writes_of, AreAsked, answer_in, end_with, windows_after}
 use Rattle.ppc_step.specs.States.{State}
 use Rattle.ppc_step.specs.Words.{word_outcome}
 use Rattle.ppc_step.specs.Steps.{fetched, step_asks, step_outcome, threads_after}

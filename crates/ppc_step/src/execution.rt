@@ -17,8 +17,9 @@ use ppc_ops::Insn;
 use system_ops::system;
 use thread_regs::Thread;
 
-/// Executes a form that works on registers alone, of this word and in a thread of this number: the arm of its layout names its unit and the registers that the
-/// unit works on. An interrupt that the form takes is not delivered here, and changes no register yet.
+/// Executes a form that works on registers alone, of this word and in a thread of this number: the arm of its layout names
+/// its unit and the registers that the unit works on. An interrupt that the form takes is not delivered here, and changes no
+/// register yet.
 #[tactic(auto, unfolding(crate::specs::Effects::thread_outcome))]
 pub fn execute(thread: &mut Thread, insn: Insn, number: u8, word: u32) -> StepEnd
     requires form { IsForm insn }

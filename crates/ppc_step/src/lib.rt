@@ -15,3 +15,6 @@ pub use laws::{
     a_step_keeps_states_sound,
 };
 pub use stepping::{Parts, Stepped, step};
+
+#[cfg(test)]
+mod tests;

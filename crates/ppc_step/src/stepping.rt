@@ -16,9 +16,7 @@ ghost use Rattle.ppc_step.specs.Rule.{StepsTo};
 
 use crate::words::execute_word;
 use interrupts::{deliver, pending, tick};
-use journal_core::{
-    AccessKind, Ask, Found, Journal, StepEnd, StepRow, StopName, Translate, Use,
-};
+use journal_core::{AccessKind, Ask, Found, Journal, StepEnd, StepRow, StopName, Translate, Use};
 use ppc_bus::Port;
 use real_store::Store;
 use thread_regs::{Thread, Threads};

@@ -1,6 +1,6 @@
-use Rattle.std.proofs.Common.{◌≡◌, List, [], ◌∷◌, Option, Some, None, ap, sym, ◌∙◌, refl}
+use Rattle.std.proofs.Common.{◌≡◌, [], Some, None, ap, sym, ◌∙◌, refl}
 use Rattle.journal_core.specs.declared.asks.Found.TheVariants.{Real, Fault, Stop}
-use Rattle.journal_core.specs.declared.rows.StepEnd.TheVariants.{Ran, Took, Stopped}
+use Rattle.journal_core.specs.declared.rows.StepEnd.TheVariants.{Took, Stopped}
 use Rattle.journal_core.specs.declared.rows.StopName.TheVariants.{NoStorage}
 use Rattle.journal_core.specs.declared.rows.Use.TheVariants.{Unused}
 use Rattle.form_outcomes.specs.Outcomes.{Takes, Stops}

@@ -1,18 +1,17 @@
-use Rattle.std.proofs.Common.{◌≡◌, ◌+◌, ◌++◌, nat_lt, List, [], ◌∷◌, length, length-append, slice_set, Some, ap, sym, ◌∙◌, refl, subst, arith}
+use Rattle.std.proofs.Common.{◌≡◌, ◌+◌, ◌++◌, nat_lt, List, length, length-append, Some, ap, sym, ◌∙◌, subst, arith}
 use Rattle.journal_core.specs.declared.rows.DeviceRow.{DeviceRow}
 use Rattle.journal_core.specs.Rows.{JournalView}
 use Rattle.journal_core.specs.Standing.{AreNamed}
 use Rattle.journal_core.specs.Steps.{add_step}
 use Rattle.journal_core.specs.Translating.{SameKept}
 use Rattle.thread_regs.specs.declared.registers.Thread.{Thread}
-use Rattle.thread_regs.specs.Registers.{thread_at}
 use Rattle.storage_ops.specs.Accesses.{scene_of}
 use Rattle.storage_ops.specs.Effects.{answer_in, behind, AreAsked}
 use Rattle.ppc_step.specs.States.{state_of, ptcrs_of}
 use Rattle.journal_core.specs.declared.rows.ReadRow.{ReadRow}
 use Rattle.journal_core.specs.declared.rows.FillRow.{FillRow}
 use Rattle.ppc_step.specs.Steps.{step_outcome, threads_after}
-use Rattle.ppc_step.specs.Performing.{is_asked, threads_by}
+use Rattle.ppc_step.specs.Performing.{is_asked}
 use Rattle.ppc_step.specs.Rule.{StepsTo}
 use Rattle.ppc_step.proofs.ExecutedLemmas.{more_is}
 use Rattle.ppc_step.proofs.StepLemmas.{row_of, steps_to}

@@ -1,6 +1,5 @@
-use Rattle.std.proofs.Common.{◌≡◌, nat_lt, true, false, ap, sym, ◌∙◌, subst}
-use Rattle.thread_regs.specs.Registers.{advanced}
-use Rattle.storage_ops.specs.Accesses.{Performs, scene_of, asks_in, outcome_in}
+use Rattle.std.proofs.Common.{◌≡◌, nat_lt, true, false, ap, sym, ◌∙◌}
+use Rattle.storage_ops.specs.Accesses.{scene_of, asks_in, outcome_in}
 use Rattle.ppc_step.specs.Steps.{is_done}
 use Rattle.ppc_step.specs.Performing.{is_done_by}
 use Rattle.ppc_step.proofs.ExecutedLemmas.{performs_onward, performs_still, done_in}

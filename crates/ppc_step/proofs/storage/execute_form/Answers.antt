@@ -1,5 +1,5 @@
-use Rattle.std.proofs.Common.{◌≡◌, [], ap, sym, ◌∙◌, refl, subst}
-use Rattle.journal_core.specs.declared.rows.StepEnd.TheVariants.{Ran, Took, Stopped}
+use Rattle.std.proofs.Common.{[], ap, sym, ◌∙◌, refl, subst}
+use Rattle.journal_core.specs.declared.rows.StepEnd.TheVariants.{Took, Stopped}
 use Rattle.journal_core.specs.declared.rows.StopName.TheVariants as stops
 use Rattle.journal_core.specs.declared.rows.Use.TheVariants.{Unused}
 use Rattle.journal_core.specs.declared.rows.StepEnd.{StepEnd}

@@ -1,10 +1,9 @@
-use Rattle.std.proofs.Common.{◌≡◌, ℕ, List, [], ap, sym, ◌∙◌, refl}
-use Rattle.journal_core.specs.declared.asks.Ask.{Ask}
-use Rattle.journal_core.specs.declared.rows.StepEnd.TheVariants.{Ran, Took, Stopped}
+use Rattle.std.proofs.Common.{◌≡◌, ℕ, [], ap, sym, ◌∙◌, refl}
+use Rattle.journal_core.specs.declared.rows.StepEnd.TheVariants.{Took, Stopped}
 use Rattle.journal_core.specs.declared.rows.StopName.TheVariants as stops
 use Rattle.journal_core.specs.declared.rows.Use.TheVariants.{Unused}
 use Rattle.journal_core.specs.declared.rows.StepEnd.{StepEnd}
-use Rattle.form_outcomes.specs.Outcomes.{Outcome, Takes, Stops, unsupported}
+use Rattle.form_outcomes.specs.Outcomes.{Takes, Stops, unsupported}
 use Rattle.form_outcomes.specs.Programs.{assist}
 use Rattle.word_decoder.specs.declared.decoded.Decoded.{Decoded}
 use Rattle.word_decoder.specs.declared.decoded.Decoded.TheVariants.{Form, Zero, InvalidForm, Unsupported}
@@ -12,7 +11,7 @@ use Rattle.word_decoder.specs.Decode.{decoded_of}
 use Rattle.thread_regs.specs.declared.registers.Thread.{Thread}
 use Rattle.storage_ops.specs.declared.accesses.StorageOut.{StorageOut}
 use Rattle.storage_ops.specs.Reaching.{reached}
-use Rattle.storage_ops.specs.Effects.{After, Around, around}
+use Rattle.storage_ops.specs.Effects.{Around, around}
 use Rattle.storage_ops.specs.Accesses.{scene_of}
 use Rattle.storage_ops.proofs.MovesLemmas.{carries_nothing}
 use Rattle.ppc_step.specs.Words.{form_outcome, form_asks, decoded_outcome, decoded_asks, word_outcome, word_asks}
@@ -70,4 +69,3 @@ returns-in-Unsupported-clause-executed g c =
     (λ answer. sym (outcome_by c.args.word c.args.thread.now (around (g.B.Port.windows c.args.bus.now) c.args.store.now.ram [] answer) (Unsupported) is))
     (carries_nothing g.B.Port.related g.B.Port.windows c.args.number (λ answer. unsupported c.args.word) c.args.thread.now c.args.store.now.ram c.args.bus.now c.args.journal.now (Stopped stops.Unsupported c.args.word) refl refl))
     (c.without_uses-in-Unsupported.ensures ∙ ap shown c.unsupported.ensures)
-
