@@ -16,9 +16,9 @@ use Rattle.journal_core.proofs.RoomLemmas.{HasRoom-more}
 use Rattle.ppc_bus.specs.Windows.{Window}
 use Rattle.thread_regs.specs.declared.registers.Thread.{Thread}
 use Rattle.thread_regs.specs.Registers.{thread_at}
-use Rattle.storage_ops.specs.Effects.{After, behind, writes_of, AreAsked, answer_in, end_with}
+use Rattle.storage_ops.specs.Effects.{After, behind, writes_of, AreAsked, answer_in}
 use Rattle.storage_ops.specs.Accesses.{Scene}
-use Rattle.form_outcomes.specs.Outcomes.{Outcome, end_of}
+use Rattle.form_outcomes.specs.Outcomes.{Outcome}
 use Rattle.ppc_step.specs.declared.stepping.Ending.{Ending}
 use Rattle.ppc_step.specs.States.{State, state_of}
 use Rattle.ppc_step.specs.Steps.{fetched, step_asks, step_outcome, threads_after}
