@@ -16,9 +16,9 @@ use Rattle.journal_core.proofs.RoomLemmas.{HasRoom-more}
 use Rattle.ppc_bus.specs.Windows.{Window}
 use Rattle.thread_regs.specs.declared.registers.Thread.{Thread}
 use Rattle.thread_regs.specs.Registers.{thread_at}
-use Rattle.storage_ops.specs.Effects.{After, behind, writes_of, AreAsked, answer_in}
+use Rattle.storage_ops.specs.Effects.{After, behind, writes_of, AreAsked, answer_in, end_with}
 use Rattle.storage_ops.specs.Accesses.{Scene}
-use Rattle.form_outcomes.specs.Outcomes.{Outcome}
+use Rattle.form_outcomes.specs.Outcomes.{Outcome, end_of}
 use Rattle.ppc_step.specs.declared.stepping.Ending.{Ending}
 use Rattle.ppc_step.specs.States.{State, state_of}
 use Rattle.ppc_step.specs.Steps.{fetched, step_asks, step_outcome, threads_after}
@@ -148,6 +148,7 @@ steps_to chooses related windows number threads threads' old new e stays perform
   devices = performed.carries.carried.port;
   founds = performed.founds;
   chosen = chosen_are chooses related windows number threads threads' old new e performed dated thread stays named;
+  outcome = performed.carries.ended ∙ ap (λ (th : Thread). end_with performed.carries.carried.devices (end_of (step_outcome th (windows old.port) old.ram performed.founds (answer_in performed.carries.carried.devices)))) thread;
   kept = λ begin made ready. record {
     rule = rule_is chooses related windows number threads threads' old new e performed dated thread begin made ready inside room most;
     state = next_is chooses related windows number threads threads' old new e performed dated thread begin made ready threads_are;
