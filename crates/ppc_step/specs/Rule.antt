@@ -17,7 +17,7 @@ use Rattle.journal_core.specs.Ends.{IsRunning}
 use Rattle.journal_core.specs.Turns.{Mark, Turn, Query, turn_of}
 use Rattle.journal_core.specs.Answers.{KeepsUses, ChoosesUses}
 use Rattle.journal_core.specs.Translating.{AreTrue}
-use Rattle.form_outcomes.specs.Outcomes.{Outcome, Goes, Takes, Stops}
+use Rattle.form_outcomes.specs.Outcomes.{Outcome, Goes, Takes, Stops, end_of}
 use Rattle.ppc_bus.specs.Chains.{Chain}
 use Rattle.thread_regs.specs.declared.registers.Thread.{Thread}
 use Rattle.thread_regs.specs.Registers.{thread_at}
@@ -131,8 +131,8 @@ pub record IsKept (begin : State) (made : List (PastStep State)) (before after :
   pub readings : AreTrue (past begin.ram after.writes) after
 
 -- One step of the code over a translator's choice and a port: the rows that it adds, of which the write rows have the right bytes;
--- the answers, which are the translator's choice; the port behind the device rows; and, where all before it was ready, the rule,
--- the state that it leaves and the truth of the readings.
+-- the answers, which are the translator's choice, and its end, which goes by them; the port behind the device rows; and, where all
+-- before it was ready, the rule, the state that it leaves and the truth of the readings.
 pub record StepsTo {P : Type 0} (chooses : Query → Found → Mark → Type 0) (related : P → DeviceRow → P → Type 0) (old new : JournalView) (port port' : P) (s s' : State) (t : ℕ) (end : StepEnd) : Type 0 where
   pub own : StepRows
   pub number : own.number ≡ length old.rows.steps
@@ -144,6 +144,7 @@ pub record StepsTo {P : Type 0} (chooses : Query → Found → Mark → Type 0) 
   pub devices : Chain related port own.devices port'
   pub founds : List Found
   pub chosen : ChoosesUses chooses (word_in s.ram) (turn_of new.rows new.floor t own.number) (step_asks (thread_at s.threads t) s.ram founds) founds own.row.uses
+  pub outcome : end ≡ end_with own.devices (end_of (step_outcome (thread_at s.threads t) s.windows s.ram founds (answer_in own.devices)))
   pub kept : (begin : State) (made : List (PastStep State)) → IsReady begin old.rows made s → IsKept begin made old.rows new.rows s s' own
 
 -- a journal is lawful from a state to a state: each step keeps the rule, and the last state is the one after all steps
