@@ -13,7 +13,7 @@ if [ ! -x "$program" ]; then
 fi
 cd "$top" || exit 1
 
-for name in first loop overflow trap system_call; do
+for name in first loop overflow trap system_call memory console; do
     page=examples/$name/README.md
     read -r -a words < <(sed -n 's|^    ./radix ||p' "$page")
     if ! "$program" "${words[@]}" >"$made" || ! cmp "$made" "examples/$name/$name.report"; then
