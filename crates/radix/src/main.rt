@@ -4,6 +4,7 @@
 mod call;
 mod command_line;
 mod exit;
+mod image_fault;
 mod information;
 mod last_step;
 mod message;

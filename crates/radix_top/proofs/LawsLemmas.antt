@@ -9,7 +9,7 @@ use Rattle.journal_core.specs.declared.rows.RowKind.{RowKind}
 use Rattle.journal_core.specs.declared.rows.StopName.{StopName}
 use Rattle.journal_core.specs.declared.rows.Ended.TheVariants as ends
 use Rattle.elf_image.specs.IsImage.{IsImageFault}
-use Rattle.elf_image.specs.declared.fault.ElfFault.TheVariants as elf_faults
+use Rattle.elf_image.proofs.OneImage.{image_or_fault}
 use Rattle.sched_text.specs.Plan.{turn}
 use Rattle.sched_text.specs.Reading.{plan_of, one_thread}
 use Rattle.sched_text.proofs.OneThread.{turn-one_thread, plan_of-one_thread}
@@ -68,10 +68,9 @@ sound_image m words (refusals.ReadFault p) a fails = inr (p, refl)
 sound_image m words (refusals.TooLong p) a fails =
     let long : most < length a.image_bytes = at_told (m.told (word_at words 1)) a.image_bytes (λ b. most < length b) a.image_told fails.1.1 in
     absurd (omega (arith, long, a.image_fits))
-sound_image m words (refusals.BadImage elf_faults.Form) a fails =
-    let none = at_told (m.told (word_at words 1)) a.image_bytes (λ b. (length b ≤ most) × IsImageFault b elf_faults.Form) a.image_told fails.1.1 in
-    absurd (none.1 a.image a.is_image)
-sound_image m words (refusals.BadImage elf_faults.Memory) a fails = absurd fails
+sound_image m words (refusals.BadImage fault) a fails =
+    let wrong = at_told (m.told (word_at words 1)) a.image_bytes (λ b. (length b ≤ most) × IsImageFault b fault) a.image_told fails.2.1 in
+    absurd (image_or_fault a.image_bytes a.image fault fails.1 a.is_image wrong.1)
 sound_image m words (refusals.BadSchedule p) a fails = absurd (kinds_differ fails.0)
   where
     kinds_differ : ImageFile ≡ ScheduleFile → ⊥
@@ -84,11 +83,10 @@ sound_schedule m words (refusals.ReadFault p) a fails = inr (p, refl)
 sound_schedule m words (refusals.TooLong p) a fails =
     let long : most < length a.schedule_bytes = at_told (m.told (word_at words 2)) a.schedule_bytes (λ b. most < length b) a.schedule_told fails.1.1 in
     absurd (omega (arith, long, a.schedule_fits))
-sound_schedule m words (refusals.BadImage elf_faults.Form) a fails = absurd (kinds_differ fails.0)
+sound_schedule m words (refusals.BadImage fault) a fails = absurd (kinds_differ fails.0)
   where
     kinds_differ : ScheduleFile ≡ ImageFile → ⊥
     kinds_differ is = cc
-sound_schedule m words (refusals.BadImage elf_faults.Memory) a fails = absurd fails
 sound_schedule m words (refusals.BadSchedule p) a fails =
     let broken = at_told (m.told (word_at words 2)) a.schedule_bytes (λ b. (length b ≤ most) × (plan_of b ≡ Err p)) a.schedule_told fails.1.1 in
     let one = a.is_schedule in

@@ -4,7 +4,6 @@ use Rattle.std.specs.Prelude.{IfSome}
 use Rattle.outer_io.specs.Outside.{Asked, added}
 use Rattle.outer_io.proofs.Printing.{rose_then}
 use Rattle.elf_image.specs.declared.image.Image.{Image}
-use Rattle.elf_image.specs.declared.fault.ElfFault.TheVariants as elf_faults
 use Rattle.elf_image.specs.IsImage.{IsImage, IsImageFault}
 use Rattle.sched_text.specs.Reading.{plan_of}
 use Rattle.ppc_machine.specs.MachineView.{MachineView}
@@ -52,9 +51,8 @@ fails_later told told' first mid last asked f (refusals.Usage place) same le fai
 fails_later told told' first mid last asked f (refusals.ReadFault place) same le fails = (fails.0, (rose_then first mid last le fails.1.0, fails.1.1))
 fails_later told told' first mid last asked f (refusals.TooLong place) same le fails =
     (fails.0, (fails.1.0, told_first told told' f.name (λ bytes. most < length bytes) (same f.name) fails.1.1))
-fails_later told told' first mid last asked f (refusals.BadImage elf_faults.Form) same le fails =
-    (fails.0, (fails.1.0, told_first told told' f.name (λ bytes. (length bytes ≤ most) × IsImageFault bytes elf_faults.Form) (same f.name) fails.1.1))
-fails_later told told' first mid last asked f (refusals.BadImage elf_faults.Memory) same le fails = fails
+fails_later told told' first mid last asked f (refusals.BadImage fault) same le fails =
+    (fails.0, fails.1, (fails.2.0, told_first told told' f.name (λ bytes. (length bytes ≤ most) × IsImageFault bytes fault) (same f.name) fails.2.1))
 fails_later told told' first mid last asked f (refusals.BadSchedule place) same le fails =
     (fails.0, (fails.1.0, told_first told told' f.name (λ bytes. (length bytes ≤ most) × (plan_of bytes ≡ _)) (same f.name) fails.1.1))
 fails_later told told' first mid last asked f refusals.Memory same le fails = tt

@@ -24,9 +24,19 @@ HasCause m words (refusals.BadImage fault) = FailsAtFile m words (refusals.BadIm
 HasCause m words (refusals.BadSchedule place) = FailsAtFile m words (refusals.BadSchedule place)
 HasCause m words refusals.Memory = Unit {0}
 
--- the name of an image's fault
+-- the name of an image's fault, and its numbers
 abbrev pub elf_name : ElfFault → List ℕ
-elf_name elf_faults.Form = codes "Form"
+elf_name elf_faults.Short = codes "Short"
+elf_name elf_faults.Magic = codes "Magic"
+elf_name elf_faults.Class = codes "Class"
+elf_name elf_faults.Order = codes "Order"
+elf_name elf_faults.Machine = codes "Machine"
+elf_name elf_faults.Abi = codes "Abi"
+elf_name elf_faults.FileType = codes "FileType"
+elf_name elf_faults.Header = codes "Header"
+elf_name elf_faults.TooMany = codes "TooMany"
+elf_name (elf_faults.Segment number) = codes "Segment " ++ decimal number
+elf_name (elf_faults.Overlap i j) = codes "Overlap " ++ decimal i ++ codes " " ++ decimal j
 elf_name elf_faults.Memory = codes "Memory"
 
 -- the line of a refusal

@@ -1,5 +1,5 @@
 -- The files that a command reads, in the order in which it reads them.
-use Rattle.std.specs.Prelude.{◌≡◌, ◌⊎◌, ◌<◌, ◌≤◌, ℕ, List, [], ◌∷◌, length, Option, Some, IfSome, Ok, Err}
+use Rattle.std.specs.Prelude.{◌≡◌, ◌≢◌, ◌⊎◌, ◌<◌, ◌≤◌, ℕ, List, [], ◌∷◌, length, Option, Some, IfSome, Ok, Err}
 use Rattle.outer_io.specs.Outside.{Asked, CountRose}
 use Rattle.outer_io.specs.declared.files.Answer.{Answer}
 use Rattle.outer_io.specs.declared.files.Answer.TheVariants as answers
@@ -93,8 +93,7 @@ WasReadAs m name P = WasRead m name × IfSome (m.told name) (λ bytes. (length b
 abbrev pub FileFails : FilesSeen → FileWord → Refusal → Type 0
 FileFails m f (refusals.ReadFault place) = (place ≡ f.place) × FailedToRead m f.name
 FileFails m f (refusals.TooLong place) = (place ≡ f.place) × WasTooLong m f.name
-FileFails m f (refusals.BadImage elf_faults.Form) = (f.kind ≡ ImageFile) × WasReadAs m f.name (λ bytes. IsImageFault bytes elf_faults.Form)
-FileFails m f (refusals.BadImage elf_faults.Memory) = ⊥
+FileFails m f (refusals.BadImage fault) = (f.kind ≡ ImageFile) × (fault ≢ elf_faults.Memory) × WasReadAs m f.name (λ bytes. IsImageFault bytes fault)
 FileFails m f (refusals.BadSchedule place) = (f.kind ≡ ScheduleFile) × WasReadAs m f.name (λ bytes. plan_of bytes ≡ Err place)
 FileFails m f refusals.Memory = Unit {0}
 FileFails m f (refusals.Usage place) = ⊥

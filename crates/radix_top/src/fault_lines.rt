@@ -1,9 +1,9 @@
 //! The line of a refusal.
 
-ghost use Rattle.std.specs.Prelude.{◌≡◌, ◌≤◌, ◌++◌, length};
+ghost use Rattle.std.specs.Prelude.{◌≡◌, ◌≤◌, ◌++◌, length, codes};
 ghost use Rattle.std.specs.Fmt.{decimal};
 ghost use Rattle.line_text.specs.Text.{end_of_line};
-ghost use Rattle.radix_top.specs.Causes.{fault_line};
+ghost use Rattle.radix_top.specs.Causes.{elf_name, fault_line};
 
 use crate::status::Refusal;
 use elf_image::ElfFault;
@@ -32,6 +32,39 @@ fn numbered(text: &[u8], number: usize) -> Line
     line
 }
 
+/// The line of two segments that meet, by the numbers of their headers.
+fn overlap_line(i: u8, j: u8) -> Line
+    ensures { result ≡ codes "fault image Overlap " ++ decimal i ++ codes " " ++ decimal j ++ end_of_line }
+{
+    let mut line = Line::new();
+    line.push_bytes(b"fault image Overlap ");
+    line.push_number(u64::from(i));
+    line.push(b' ');
+    line.push_number(u64::from(j));
+    line.push(b'\n');
+    line
+}
+
+/// The line of a file that is no image.
+fn image_line(fault: ElfFault) -> Line
+    ensures { result ≡ codes "fault image " ++ elf_name fault ++ end_of_line }
+{
+    match fault {
+        ElfFault::Short => plain(b"fault image Short"),
+        ElfFault::Magic => plain(b"fault image Magic"),
+        ElfFault::Class => plain(b"fault image Class"),
+        ElfFault::Order => plain(b"fault image Order"),
+        ElfFault::Machine => plain(b"fault image Machine"),
+        ElfFault::Abi => plain(b"fault image Abi"),
+        ElfFault::FileType => plain(b"fault image FileType"),
+        ElfFault::Header => plain(b"fault image Header"),
+        ElfFault::TooMany => plain(b"fault image TooMany"),
+        ElfFault::Segment(number) => numbered(b"fault image Segment ", usize::from(number)),
+        ElfFault::Overlap(i, j) => overlap_line(i, j),
+        ElfFault::Memory => plain(b"fault image Memory"),
+    }
+}
+
 /// The line that a refusal prints.
 pub fn fault_line(refusal: Refusal) -> Line
     ensures { result ≡ fault_line refusal }
@@ -40,8 +73,7 @@ pub fn fault_line(refusal: Refusal) -> Line
         Refusal::Usage(place) => numbered(b"fault usage ", place),
         Refusal::ReadFault(place) => numbered(b"fault read ", place),
         Refusal::TooLong(place) => numbered(b"fault long ", place),
-        Refusal::BadImage(ElfFault::Form) => plain(b"fault image Form"),
-        Refusal::BadImage(ElfFault::Memory) => plain(b"fault image Memory"),
+        Refusal::BadImage(fault) => image_line(fault),
         Refusal::BadSchedule(place) => numbered(b"fault schedule ", place),
         Refusal::Memory => plain(b"fault memory"),
     }

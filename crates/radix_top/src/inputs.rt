@@ -65,8 +65,8 @@ fn read_image<F: Files>(alloc: Global, words: &[String], files: &mut F) -> Resul
     let bytes = read_word(alloc, words, 1, files)?;
     match read_elf(alloc, &bytes) {
         Ok(image) => Ok(image),
-        Err(ElfFault::Form) => Err(Refusal::BadImage(ElfFault::Form)),
         Err(ElfFault::Memory) => Err(Refusal::Memory),
+        Err(fault) => Err(Refusal::BadImage(fault)),
     }
 }
 

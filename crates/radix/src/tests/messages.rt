@@ -91,8 +91,12 @@ fn messages_name_the_file_and_what_is_wrong(rt: HostRuntime) -> Result<(), Fail>
         ),
         (Status::TooLong(2), "radix: 'b': longer than 64 MiB\n"),
         (
-            Status::BadImage(ElfFault::Form),
-            "radix: 'a\\u{1b}\\n\\'': not an image that this version reads (docs/FORMATS.md, \"The image\")\n",
+            Status::BadImage(ElfFault::Class),
+            "radix: 'a\\u{1b}\\n\\'': not an ELF file of 64 bits (docs/FORMATS.md, \"The image\")\n",
+        ),
+        (
+            Status::BadImage(ElfFault::Overlap(0, 2)),
+            "radix: 'a\\u{1b}\\n\\'': the segments of headers 0 and 2 have a common address (docs/FORMATS.md, \"The image\")\n",
         ),
         (
             Status::BadSchedule(0),
