@@ -1,7 +1,7 @@
 //! Faults of the outside.
 
 use super::runs::REPORT;
-use super::support::{FIRST, ONE_THREAD, call, image, words};
+use super::support::{FIRST, ONE_THREAD, bench, call, image, words};
 use crate::{Bench, Status, radix_call};
 use journal_core::Ended;
 use outer_io::{MemFiles, MemSink, SureFiles, SureSink};
@@ -32,6 +32,7 @@ fn a_failing_read_is_told_by_its_word(rt: HostRuntime) -> Result<(), Fail> {
         let left = call(rt.alloc(), &RUN, &mut files, &mut out)?;
         assert_eq!(rt; left.status, status);
         assert_eq!(rt; left.steps, None);
+        assert_eq!(rt; left.devices, 3);
         assert_eq!(rt; left.text.as_slice(), line.as_bytes());
     }
     Ok(())
@@ -68,6 +69,7 @@ fn a_failing_put_leaves_a_front_and_the_whole_run(rt: HostRuntime) -> Result<(),
             let left = call(rt.alloc(), &RUN, &mut files, &mut out)?;
             assert_eq!(rt; left.status, Status::WriteFault);
             assert_eq!(rt; left.steps, Some(3));
+            assert_eq!(rt; left.devices, 0);
             assert!(rt; left.text.len() < REPORT.len());
             assert!(rt; REPORT.as_bytes().starts_with(left.text.as_slice()));
         }
@@ -95,7 +97,10 @@ fn a_sure_outside_has_no_fault(rt: HostRuntime) -> Result<(), Fail> {
     files.add("b", ONE_THREAD)?;
     let list = words(rt.alloc(), &RUN)?;
     let mut out = SureSink::new();
-    let mut bench = Bench { machine: None };
+    let mut bench = Bench {
+        devices: bench(rt.alloc())?.devices,
+        machine: None,
+    };
     let status = radix_call(rt.alloc(), &list, &mut files, &mut out, &mut bench);
     assert_eq!(rt; status, Status::Done(Ended::AllRun));
     assert_eq!(rt; out.count(), REPORT.len() as u64);
