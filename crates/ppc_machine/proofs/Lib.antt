@@ -1,5 +1,4 @@
-pub mod OpenLemmas
-pub mod StepLemmas
 pub mod ViewLemmas
 pub mod RunLemmas
-pub mod QuietLemmas
+pub mod OpenLemmas
+pub mod PlugLemmas

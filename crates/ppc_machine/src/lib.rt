@@ -2,9 +2,9 @@
 #![tactic(auto)]
 
 mod machines;
-mod stepping;
+mod opening;
+mod plugging;
 
-pub use machines::Machine;
-
-#[cfg(test)]
-mod tests;
+pub use machines::{Machine, MachineOf};
+pub use opening::{OpenFault, OpenFaultOf, OpenReason};
+pub use plugging::{Plugged, PluggedOf};

@@ -3,27 +3,32 @@
 ghost use Rattle.std.specs.Prelude.{◌≡◌, IfOk, IfErr, Some, None};
 ghost use Rattle.journal_core.specs.Ends.{ended_of, stop_of};
 
-use crate::stepping::{Components, step};
-use elf_image::Image;
+use crate::opening::{OpenFaultOf, OpenReason, refusal_for, take_memory};
+use crate::plugging::{Measure, PluggedOf, plug_all};
+use elf_image::{Guests, Image};
 use journal_core::{Ended, Journal, StepEnd, StopName};
+use ppc_bus::{BusOf, Device};
 use ppc_step::Parts;
 use real_store::Store;
 use sched_text::Schedule;
 use std::alloc::{AllocError, Global};
 use std::marker::Model;
 use thread_regs::{Thread, Threads};
+use translator::Plain;
 
-/// A machine with the journal of all its steps. Contracts see its entry, its threads, RAM and the journal.
+/// A machine with its devices and the journal of all its steps. Contracts see its entry, the windows of its devices as they were
+/// plugged, its threads, RAM, the slots of its bus and the journal.
 #[derive(Drop)]
-pub struct Machine {
+pub struct MachineOf<D> {
     entry: u64,
-    components: Components,
+    measured: BusOf<Measure>,
+    parts: Parts<Plain, BusOf<D>>,
 }
 
-impl Model for Machine {
+impl<D> Model for MachineOf<D> {
     ghost use Rattle.ppc_machine.specs.MachineView.{MachineView, IsKept};
 
-    ghost Value = { MachineView };
+    ghost Value = { MachineView D };
 
     ghost use Rattle.ppc_machine.specs.Inside.{held_of};
 
@@ -31,6 +36,9 @@ impl Model for Machine {
 
     ghost invariant = { λ m. IsKept (held_of m) };
 }
+
+/// A machine of boxed devices.
+pub type Machine = MachineOf<Box<dyn Device>>;
 
 /// The stop that the last step is, if it is one.
 #[tactic(auto, unfolding(journal_core::specs::Ends::stop_of))]
@@ -71,44 +79,62 @@ fn next_at(journal: &Journal, n: u32, next: Option<u8>) -> Result<u8, Ended>
     }
 }
 
-impl Machine {
-    ghost use Rattle.std.specs.Prelude.{◌≡◌, ◌<◌, ◌≤◌, ◌*◌, length, IfOk};
+impl<D: Device> MachineOf<D> {
+    ghost use Rattle.std.specs.Prelude.{◌≡◌, ◌<◌, ◌≤◌, ◌*◌, length, IfOk, IfErr, None};
     ghost use Rattle.journal_core.specs.Room.{HasRoom};
     ghost use Rattle.journal_core.specs.Ends.{IsRunning};
     ghost use Rattle.thread_regs.specs.Registers.{thread_at};
+    ghost use Rattle.ppc_bus.specs.Answers.{DeviceAnswers};
     ghost use Rattle.ppc_step.specs.Soundness.{IsSound};
     ghost use Rattle.ppc_machine.specs.MachineView.{now_of, start_of, IsLawful};
-    ghost use Rattle.ppc_machine.specs.Machines.{IsOneWithin, opened, StepsOn, IsStopped, RunsTo};
+    ghost use Rattle.ppc_machine.specs.Plugging.{windows_for};
+    ghost use Rattle.ppc_machine.specs.Opening as opening;
+    ghost use Rattle.ppc_machine.specs.Machines.{StepsOn, IsStopped, RunsTo};
 
-    /// A machine with an image in its RAM, which is all zero elsewhere, its threads in their reset state
-    /// at the image's entry, and an empty journal for so many steps. All memory that it ever needs is
-    /// taken here.
+    /// A machine with an image and guests in so many MiB of RAM, which is all zero elsewhere, its threads in their reset state at
+    /// the image's entry, its devices in slots from 0 on, and an empty journal for so many steps. All memory that it ever needs is
+    /// taken here. A refusal hands all devices back, as they were.
     pub fn open(
         alloc: Global,
         image: &Image,
+        guests: &Guests,
         ram_mib: u16,
         threads: u8,
+        devices: Vec<PluggedOf<D>>,
         steps: u32,
-    ) -> Result<Machine, AllocError>
-        requires image { IsOneWithin image.now ram_mib }
-        requires ram { ram_mib ≡ 16 }
-        requires threads { threads ≡ 1 }
-        requires steps { steps ≤ 1048576 }
-        ensures { IfOk result (λ m. m ≡ opened image.now ram_mib threads steps) }
+    ) -> Result<MachineOf<D>, OpenFaultOf<D>>
+        ensures ok { IfOk result (λ m. (opening.refusal_for image.now guests.now ram_mib threads (windows_for D.window_size devices.items) steps ≡ None) × (m ≡ opening.opened D.window_size image.now guests.now ram_mib threads devices.items steps)) }
+        ensures err { IfErr result (λ fault. (fault.devices ≡ devices) × opening.IsReason (opening.refusal_for image.now guests.now ram_mib threads (windows_for D.window_size devices.items) steps) fault.reason) }
     {
-        let mut store = Store::open(alloc, 1_048_576 * u64::from(ram_mib))?;
-        for segment in image.segments.as_slice() {
-            let _ = store.place(segment.at, segment.bytes.as_slice());
+        let mut measured = BusOf::new();
+        let slice = devices.as_slice();
+        if let Some(reason) = refusal_for(
+            image,
+            guests,
+            ram_mib,
+            threads,
+            slice,
+            steps,
+            &mut measured,
+        ) {
+            return Err(OpenFaultOf { devices, reason });
         }
-        let journal = Journal::open(alloc, steps)?;
-        Ok(Machine {
+        let (store, journal) = match take_memory(alloc, image, guests, ram_mib, steps) {
+            Ok(memory) => memory,
+            Err(AllocError) => {
+                let reason = OpenReason::Memory;
+                return Err(OpenFaultOf { devices, reason });
+            }
+        };
+        Ok(MachineOf {
             entry: image.entry,
-            components: Components {
-                parts: Parts {
-                    threads: Threads::reset(threads, image.entry),
-                },
+            measured,
+            parts: Parts {
+                threads: Threads::reset(threads, image.entry),
                 store,
+                bus: plug_all(devices),
                 journal,
+                translator: Plain::new(),
             },
         })
     }
@@ -117,7 +143,7 @@ impl Machine {
     pub fn journal(&self) -> &Journal
         ensures { result.now ≡ self.now.journal }
     {
-        &self.components.journal
+        &self.parts.journal
     }
 
     /// The registers of all threads, of which each is sound, with one time base.
@@ -125,7 +151,7 @@ impl Machine {
         ensures threads { result.now ≡ self.now.threads }
         ensures sound { IsSound (now_of self.now) }
     {
-        let threads = &self.components.parts.threads;
+        let threads = &self.parts.threads;
         let _ = threads.count();
         threads
     }
@@ -135,14 +161,21 @@ impl Machine {
         requires { i < length self.now.threads }
         ensures { result.now ≡ thread_at self.now.threads i }
     {
-        self.components.parts.threads.get(i)
+        self.parts.threads.get(i)
     }
 
     /// RAM.
     pub fn memory(&self) -> &Store
-        ensures { result.now.ram ≡ self.now.store }
+        ensures { result.now.ram ≡ self.now.ram }
     {
-        &self.components.store
+        &self.parts.store
+    }
+
+    /// The bus, with the devices that were not ejected.
+    pub fn bus(&self) -> &BusOf<D>
+        ensures { result.now ≡ self.now.slots }
+    {
+        &self.parts.bus
     }
 
     /// One step of a thread below the count. A machine whose last step is a stop answers it again and
@@ -151,29 +184,29 @@ impl Machine {
         requires thread { thread < length self.old.threads }
         requires room { HasRoom self.old.journal.reserved self.old.journal.rows }
         ensures stopped { IsStopped self.old self.new result }
-        ensures row { IsRunning self.old.journal.rows.steps → StepsOn self.old self.new thread result }
+        ensures row { IsRunning self.old.journal.rows.steps → StepsOn (DeviceAnswers D.list D.answers) self.old self.new thread result }
         ensures start { start_of self.new ≡ start_of self.old }
         ensures lawful { IsLawful self.new }
     {
-        if let Some((name, value)) = last_stop(&self.components.journal) {
+        if let Some((name, value)) = last_stop(&self.parts.journal) {
             return StepEnd::Stopped(name, value);
         }
-        step(&mut self.components, thread)
+        ppc_step::step(&mut self.parts, thread)
     }
 
     /// Runs until there are `n` step rows, or no further step can be: the last step is a stop, the schedule
     /// has no next turn, or a list of the journal has no room for a whole step, tried in this order.
     pub fn run(&mut self, schedule: &Schedule, n: u32) -> Ended
         requires threads { schedule.now.threads ≡ length self.old.threads }
-        ensures { RunsTo schedule.now n self.old self.new result }
+        ensures { RunsTo (DeviceAnswers D.list D.answers) schedule.now n self.old self.new result }
     {
         loop {
-            let next = schedule.turn(self.components.journal.counts().steps);
-            let thread = match next_at(&self.components.journal, n, next) {
+            let next = schedule.turn(self.parts.journal.counts().steps);
+            let thread = match next_at(&self.parts.journal, n, next) {
                 Ok(thread) => thread,
                 Err(ended) => return ended,
             };
-            let _ = self.step(thread);
+            let _ = ppc_step::step(&mut self.parts, thread);
         }
     }
 }

@@ -48,7 +48,7 @@ impl Device for Measure {
 
 /// Plugs what stands for some devices, the first of which has this number, up to the first that is refused: its number, and why.
 #[tactic(auto, unfolding(crate::specs::Plugging::first_refused))]
-pub fn measure<D: Device>(
+pub fn measure_windows<D: Device>(
     devices: &[PluggedOf<D>],
     number: usize,
     bus: &mut BusOf<Measure>,
@@ -63,7 +63,7 @@ pub fn measure<D: Device>(
             let size = plugged.device.window();
             match bus.plug(plugged.at, Measure { size }) {
                 Err(fault) => Some((number, fault.reason)),
-                Ok(_) => measure(rest, number + 1, bus),
+                Ok(_) => measure_windows(rest, number + 1, bus),
             }
         }
     }

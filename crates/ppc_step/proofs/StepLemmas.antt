@@ -147,6 +147,7 @@ steps_to chooses related windows number threads threads' old new e stays perform
   ended = refl;
   is_own = is_own chooses related windows number threads threads' old new e performed dated thread;
   journal = journal_is chooses related windows number threads threads' old new e performed dated thread;
+  right = performed.carries.carried.right;
   devices = performed.carries.carried.port;
   founds = performed.founds;
   chosen = chosen_are chooses related windows number threads threads' old new e performed dated thread stays named;

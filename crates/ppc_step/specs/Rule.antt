@@ -10,7 +10,7 @@ use Rattle.journal_core.specs.declared.rows.Use.{Use}
 use Rattle.journal_core.specs.declared.rows.Use.TheVariants.{Unused, Real, Hit, Walked, Faulted}
 use Rattle.journal_core.specs.Rows.{Rows, JournalView}
 use Rattle.journal_core.specs.Room.{HasRoom, most_steps}
-use Rattle.journal_core.specs.Past.{ram_after, past, word_in}
+use Rattle.journal_core.specs.Past.{ram_after, past, word_in, AreWrites}
 use Rattle.journal_core.specs.Steps.{StepRows, IsOwn, with_own}
 use Rattle.journal_core.specs.Runs.{IsRun, PastStep}
 use Rattle.journal_core.specs.Ends.{IsRunning}
@@ -130,9 +130,9 @@ pub record IsKept (begin : State) (made : List (PastStep State)) (before after :
   pub state : s' ≡ next_state s own
   pub readings : AreTrue (past begin.ram after.writes) after
 
--- One step of the code over a translator's choice and a port: the rows that it adds; the answers, which are the translator's
--- choice; the port behind the device rows; and, where all before it was ready, the rule, the state that it leaves and the truth of the
--- readings.
+-- One step of the code over a translator's choice and a port: the rows that it adds, of which the write rows have the right bytes;
+-- the answers, which are the translator's choice; the port behind the device rows; and, where all before it was ready, the rule,
+-- the state that it leaves and the truth of the readings.
 pub record StepsTo {P : Type 0} (chooses : Query → Found → Mark → Type 0) (related : P → DeviceRow → P → Type 0) (old new : JournalView) (port port' : P) (s s' : State) (t : ℕ) (end : StepEnd) : Type 0 where
   pub own : StepRows
   pub number : own.number ≡ length old.rows.steps
@@ -140,6 +140,7 @@ pub record StepsTo {P : Type 0} (chooses : Query → Found → Mark → Type 0) 
   pub ended : own.row.end ≡ end
   pub is_own : IsOwn own
   pub journal : new ≡ record old { rows = with_own old.rows own }
+  pub right : AreWrites s.ram own.writes
   pub devices : Chain related port own.devices port'
   pub founds : List Found
   pub chosen : ChoosesUses chooses (word_in s.ram) (turn_of new.rows new.floor t own.number) (step_asks (thread_at s.threads t) s.ram founds) founds own.row.uses

@@ -1,17 +1,17 @@
 -- An access from its parts.
-use Rattle.std.proofs.Common.{◌≡◌, ℕ, ◌≤◌, arith, List, [], ◌∷◌, ◌++◌, length, slice_get, Option, Some, None, Bool, true, false, if◌then◌else◌, ap, sym, ◌∙◌, refl, subst, append-nil}
+use Rattle.std.proofs.Common.{◌≡◌, ℕ, arith, List, [], ◌++◌, length, Option, Bool, true, false, if◌then◌else◌, ap, sym, ◌∙◌, refl, subst, append-nil}
 use Rattle.journal_core.specs.declared.causes.Cause.TheVariants.{Alignment}
 use Rattle.journal_core.specs.declared.asks.AccessKind.{AccessKind}
 use Rattle.journal_core.specs.declared.asks.Ask.{Ask}
 use Rattle.journal_core.specs.declared.asks.Found.{Found}
 use Rattle.journal_core.specs.declared.rows.DeviceRow.{DeviceRow}
 use Rattle.journal_core.specs.declared.rows.StepEnd.{StepEnd}
-use Rattle.journal_core.specs.declared.rows.StepEnd.TheVariants.{Ran, Took, Stopped}
+use Rattle.journal_core.specs.declared.rows.StepEnd.TheVariants.{Ran, Took}
 use Rattle.journal_core.specs.declared.rows.Use.TheVariants.{Unused}
 use Rattle.journal_core.specs.declared.rows.ReadRow.{ReadRow}
 use Rattle.journal_core.specs.declared.rows.FillRow.{FillRow}
 use Rattle.journal_core.specs.Rows.{JournalView}
-use Rattle.journal_core.specs.Turns.{Mark, Query, mark_of}
+use Rattle.journal_core.specs.Turns.{Mark, Query}
 use Rattle.journal_core.specs.Translating.{SameKept}
 use Rattle.form_outcomes.specs.Outcomes.{Outcome, Goes, Takes, Stops}
 use Rattle.ppc_ops.specs.declared.insn.Insn.{Insn}
@@ -23,8 +23,8 @@ use Rattle.storage_ops.specs.declared.deeds.Deed.TheVariants.{Nothing}
 use Rattle.storage_ops.specs.declared.parts.Part.{Part}
 use Rattle.storage_ops.specs.Deeds.{deed_of, is_misaligned, address_in, parts_in, kind_in}
 use Rattle.storage_ops.specs.Reaching.{asks_for, asks_of, reached, and_then, laid, first_use, second_use, EndsAs}
-use Rattle.storage_ops.specs.Answering.{AddsWalks, IsAnswered}
-use Rattle.storage_ops.specs.Effects.{After, Around, around, registers, storage_outcome, deed_outcome, placed_outcome}
+use Rattle.storage_ops.specs.Answering.{IsAnswered}
+use Rattle.storage_ops.specs.Effects.{After, around, registers, storage_outcome, deed_outcome, placed_outcome}
 use Rattle.storage_ops.specs.Accesses.{Scene, scene_of, IsCarried, Carries, IsAccess, outcome_in}
 use Rattle.storage_ops.proofs.MovesLemmas.{carries_nothing, carries_plain}
 

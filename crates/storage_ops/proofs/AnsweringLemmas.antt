@@ -1,5 +1,5 @@
 -- One answer, and two of them.
-use Rattle.std.proofs.Common.{◌≡◌, ℕ, ◌+◌, ◌*◌, ◌≤◌, List, [], ◌∷◌, ◌++◌, length, Option, Some, None, arith, ap, sym, ◌∙◌, refl, subst, length-append, append_assoc}
+use Rattle.std.proofs.Common.{◌≡◌, ℕ, ◌+◌, ◌≤◌, List, [], ◌∷◌, ◌++◌, length, Option, Some, None, arith, ap, sym, ◌∙◌, refl, subst, length-append, append_assoc}
 use Rattle.std.specs.List.{AllByRecursion}
 use Rattle.journal_core.specs.declared.rows.ReadRow.{ReadRow}
 use Rattle.journal_core.specs.declared.rows.FillRow.{FillRow}
@@ -8,12 +8,11 @@ use Rattle.journal_core.specs.declared.asks.Ask.{Ask}
 use Rattle.journal_core.specs.declared.asks.Found.{Found}
 use Rattle.journal_core.specs.declared.asks.Found.TheVariants.{Real, Fault, Stop}
 use Rattle.journal_core.specs.Past.{word_in}
-use Rattle.journal_core.specs.Room.{walk_reads, walk_fills}
 use Rattle.journal_core.specs.Rows.{JournalView}
 use Rattle.journal_core.specs.Standing.{AreNamed}
 use Rattle.journal_core.specs.Turns.{Mark, NoFewer, Query, query_of, turn_in, mark_of}
-use Rattle.journal_core.specs.Answers.{IsAnswer, AreAnswered}
-use Rattle.journal_core.specs.Translating.{IsQuiet, AreTrue, OnlyAdds, GoesOn, IsWithin, Stays}
+use Rattle.journal_core.specs.Answers.{IsAnswer}
+use Rattle.journal_core.specs.Translating.{IsQuiet, AreTrue, OnlyAdds, IsWithin, Stays}
 use Rattle.journal_core.proofs.AddsFacts.{goes_on}
 use Rattle.walk_laws.proofs.AnswersStay.{answer_goes_on}
 use Rattle.walk_laws.proofs.TrueAgain.{true_again}
@@ -21,7 +20,7 @@ use Rattle.thread_regs.specs.declared.registers.Thread.{Thread}
 use Rattle.storage_ops.specs.declared.parts.Part.{Part}
 use Rattle.storage_ops.specs.Parts.{listed_second}
 use Rattle.storage_ops.specs.Reaching.{ask_of, asks_for, reached, next_part}
-use Rattle.storage_ops.specs.Answering.{AreAnswers, StayTrue, AreChosen, AddsWalks, IsAnswered}
+use Rattle.storage_ops.specs.Answering.{AddsWalks, IsAnswered}
 
 -- what one answer of a translator says of the rule, and of its choice
 abbrev pub IsOneAnswer : ℕ → ℕ → List ℕ → JournalView → JournalView → Ask → Found → Type 0

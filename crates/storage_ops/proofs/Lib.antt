@@ -3,3 +3,4 @@ pub mod MovingLemmas
 pub mod StoringLemmas
 pub mod MovesLemmas
 pub mod AccessesLemmas
+pub mod ExamplesLemmas

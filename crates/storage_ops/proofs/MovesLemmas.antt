@@ -4,11 +4,11 @@ use Rattle.journal_core.specs.declared.rows.WriteRow.{WriteRow}
 use Rattle.journal_core.specs.declared.rows.DeviceRow.{DeviceRow}
 use Rattle.journal_core.specs.declared.rows.Signal.{Signal}
 use Rattle.journal_core.specs.declared.rows.StepEnd.{StepEnd}
-use Rattle.journal_core.specs.declared.rows.StepEnd.TheVariants.{Ran, Took, Stopped}
-use Rattle.journal_core.specs.Past.{ram_after}
+use Rattle.journal_core.specs.declared.rows.StepEnd.TheVariants.{Ran, Stopped}
+use Rattle.journal_core.specs.Past.{ram_after, AreWrites}
 use Rattle.journal_core.specs.Rows.{JournalView}
 use Rattle.journal_core.specs.Steps.{add_device}
-use Rattle.form_outcomes.specs.Outcomes.{Outcome, Goes, Takes, Stops, end_of}
+use Rattle.form_outcomes.specs.Outcomes.{Outcome, Goes, Stops, end_of}
 use Rattle.ppc_bus.specs.Windows.{Window}
 use Rattle.ppc_bus.specs.Chains.{Chain}
 use Rattle.ppc_bus.specs.Devices.{load_row, store_row}
@@ -19,7 +19,7 @@ use Rattle.storage_ops.specs.declared.parts.Parts.{Parts}
 use Rattle.storage_ops.specs.Parts.{listed, listed_second, bytes_of_second, AreParts}
 use Rattle.journal_core.specs.declared.rows.StopName.{StopName}
 use Rattle.storage_ops.specs.Checks.{device_of, unless_refused}
-use Rattle.storage_ops.specs.Effects.{After, Stored, DeviceAsk, registers, behind, asked_at, writes_of, AreAsked, AreAskedBy, answer_in, end_with, end_by, windows_by, windows_after}
+use Rattle.storage_ops.specs.Effects.{After, Stored, registers, behind, asked_at, writes_of, AreAsked, AreAskedBy, end_by, windows_by}
 use Rattle.storage_ops.specs.Accesses.{Scene, scene_of, with_writes, IsCarried, Carries}
 
 rows_more : JournalView → List WriteRow → List DeviceRow → JournalView
@@ -37,13 +37,14 @@ device_rows j row = ap (λ (ws : List WriteRow). record j { rows = record j.rows
 
 unfoldable carried_plain : {P : Type 0} (related : P → DeviceRow → P → Type 0) (windows : P → List (Option Window)) (number : ℕ) (after : ℕ → After) (t t' : Thread) (ram : List ℕ) (port : P) (j : JournalView) →
     t' ≡ (after 0).thread → (after 0).stored ≡ [] → (after 0).asked ≡ None → IsCarried related windows number after (scene_of t ram port j) (scene_of t' ram port j)
-unfolding ram_after Chain
+unfolding ram_after AreWrites Chain
 carried_plain related windows number after t t' ram port j thread stored asked = record {
   writes = [];
   devices = [];
   journal = same_rows j;
   thread = thread;
   write = rw stored refl;
+  right = tt;
   device = rw asked refl;
   ram = refl;
   port = refl;
@@ -51,15 +52,16 @@ carried_plain related windows number after t t' ram port j thread stored asked =
 }
 
 unfoldable carried_written : {P : Type 0} (related : P → DeviceRow → P → Type 0) (windows : P → List (Option Window)) (number moment : ℕ) (after : ℕ → After) (stored : List Stored) (t t' : Thread) (ram ram' : List ℕ) (port : P) (j j' : JournalView) → moment ≡ length j.rows.steps →
-    t' ≡ (after 0).thread → (after 0).stored ≡ stored → (after 0).asked ≡ None → ram' ≡ ram_after ram (writes_of moment number ram stored) → j' ≡ with_writes j (writes_of moment number ram stored) →
+    t' ≡ (after 0).thread → (after 0).stored ≡ stored → (after 0).asked ≡ None → ram' ≡ ram_after ram (writes_of moment number ram stored) → j' ≡ with_writes j (writes_of moment number ram stored) → AreWrites ram (writes_of moment number ram stored) →
     IsCarried related windows number after (scene_of t ram port j) (scene_of t' ram' port j')
 unfolding Chain
-carried_written related windows number moment after stored t t' ram ram' port j j' is thread are asked ram_is rows_are = record {
+carried_written related windows number moment after stored t t' ram ram' port j j' is thread are asked ram_is rows_are right = record {
   writes = writes_of moment number ram stored;
   devices = [];
   journal = rows_are ∙ write_rows j (writes_of moment number ram stored);
   thread = thread;
   write = rw are (ap (λ n. writes_of n number ram stored) is);
+  right = right;
   device = rw asked refl;
   ram = ram_is;
   port = refl;
@@ -70,13 +72,14 @@ carried_written related windows number moment after stored t t' ram ram' port j 
 unfoldable carried_asked : {P : Type 0} (related : P → DeviceRow → P → Type 0) (windows : P → List (Option Window)) (number moment : ℕ) (after : ℕ → After) (row : DeviceRow) (t t' : Thread) (ram : List ℕ) (port port' : P) (j j' : JournalView) → moment ≡ length j.rows.steps →
     t' ≡ (after row.value).thread → (after row.value).stored ≡ [] → AreAsked moment (after row.value).asked (row ∷ []) → j' ≡ record j { rows = add_device j.rows row } → related port row port' → windows port' ≡ windows_by row.signal (windows port) →
     IsCarried related windows number after (scene_of t ram port j) (scene_of t' ram port' j')
-unfolding ram_after Chain
+unfolding ram_after AreWrites Chain
 carried_asked related windows number moment after row t t' ram port port' j j' is thread stored asked rows_are is_related windows_are = record {
   writes = [];
   devices = row ∷ [];
   journal = rows_are ∙ device_rows j row;
   thread = thread;
   write = rw stored refl;
+  right = tt;
   device = subst (λ n. AreAsked n (after row.value).asked (row ∷ [])) is asked;
   ram = refl;
   port = (port', is_related, refl);
@@ -90,11 +93,11 @@ unfolding carried_plain
 carries_plain related windows number after t t' ram port j thread stored asked = record { carried = carried_plain related windows number after t t' ram port j thread stored asked; ended = refl }
 
 pub carries_written : {P : Type 0} (related : P → DeviceRow → P → Type 0) (windows : P → List (Option Window)) (number moment : ℕ) (after : ℕ → After) (stored : List Stored) (t t' : Thread) (ram ram' : List ℕ) (port : P) (j j' : JournalView) → moment ≡ length j.rows.steps →
-    t' ≡ (after 0).thread → (after 0).stored ≡ stored → (after 0).asked ≡ None → ram' ≡ ram_after ram (writes_of moment number ram stored) → j' ≡ with_writes j (writes_of moment number ram stored) →
+    t' ≡ (after 0).thread → (after 0).stored ≡ stored → (after 0).asked ≡ None → ram' ≡ ram_after ram (writes_of moment number ram stored) → j' ≡ with_writes j (writes_of moment number ram stored) → AreWrites ram (writes_of moment number ram stored) →
     Carries related windows number (λ answer. Goes (after answer)) (scene_of t ram port j) (scene_of t' ram' port j') Ran
 unfolding carried_written
-carries_written related windows number moment after stored t t' ram ram' port j j' is thread are asked ram_is rows_are =
-    record { carried = carried_written related windows number moment after stored t t' ram ram' port j j' is thread are asked ram_is rows_are; ended = refl }
+carries_written related windows number moment after stored t t' ram ram' port j j' is thread are asked ram_is rows_are right =
+    record { carried = carried_written related windows number moment after stored t t' ram ram' port j j' is thread are asked ram_is rows_are right; ended = refl }
 
 pub carries_asked : {P : Type 0} (related : P → DeviceRow → P → Type 0) (windows : P → List (Option Window)) (number moment : ℕ) (after : ℕ → After) (row : DeviceRow) (t t' : Thread) (ram : List ℕ) (port port' : P) (j j' : JournalView) (end : StepEnd) → moment ≡ length j.rows.steps →
     t' ≡ (after row.value).thread → (after row.value).stored ≡ [] → AreAsked moment (after row.value).asked (row ∷ []) → j' ≡ record j { rows = add_device j.rows row } → related port row port' → windows port' ≡ windows_by row.signal (windows port) → end ≡ end_by row.signal row.slot Ran →
@@ -106,7 +109,7 @@ carries_asked related windows number moment after row t t' ram port port' j j' e
 -- what does not go on changes nothing
 pub carries_nothing : {P : Type 0} (related : P → DeviceRow → P → Type 0) (windows : P → List (Option Window)) (number : ℕ) (outcome : ℕ → Outcome After) (t : Thread) (ram : List ℕ) (port : P) (j : JournalView) (end : StepEnd) →
     end ≡ end_of (outcome 0) → behind (outcome 0) t ≡ registers t → Carries related windows number outcome (scene_of t ram port j) (scene_of t ram port j) end
-unfolding ram_after Chain
+unfolding ram_after AreWrites Chain
 carries_nothing related windows number outcome t ram port j end ended nothing = record {
   carried = record {
     writes = [];
@@ -114,6 +117,7 @@ carries_nothing related windows number outcome t ram port j end ended nothing = 
     journal = same_rows j;
     thread = rw nothing refl;
     write = rw nothing refl;
+    right = tt;
     device = rw nothing refl;
     ram = refl;
     port = refl;

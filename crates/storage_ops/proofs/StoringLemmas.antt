@@ -1,14 +1,14 @@
 -- Bytes of RAM in two parts, and doublewords of zeros.
 use Rattle.std.proofs.Common.{◌≡◌, ℕ, zero, suc, ◌+◌, ◌*◌, ◌/◌, ◌%◌, ◌^◌, ◌<◌, ◌≤◌, List, [], ◌∷◌, ◌++◌, length, Option, Some, None, refl, arith, subst, append-nil, mul_comm, pow-add}
-use Rattle.std.proofs.Math.Nat.{pow-succ', pow-le-pow_right, mul-le-mul_left, mod-eq_of_lt, div-lt_iff_lt-mul}
+use Rattle.std.proofs.Math.Nat.{pow-succ', pow-le-pow_right, mul-le-mul_left, mod-lt, mod-eq_of_lt, div-lt_iff_lt-mul}
 use Rattle.journal_core.specs.Bytes.{le_bytes, le_value, piece}
-use Rattle.journal_core.specs.Past.{write_row, written, ram_after}
+use Rattle.journal_core.specs.Past.{write_row, written, ram_after, IsWrite, AreWrites}
 use Rattle.journal_core.specs.declared.rows.WriteRow.{WriteRow}
 use Rattle.journal_core.proofs.BytesLemmas.{length-le_bytes, length-placed, length-piece}
 use Rattle.storage_ops.specs.declared.parts.Part.{Part}
-use Rattle.storage_ops.specs.Parts.{listed_second, bytes_in, bytes_of_second}
+use Rattle.storage_ops.specs.Parts.{listed_second, bytes_in, bytes_of_second, IsSome, AreWithin}
 use Rattle.storage_ops.proofs.MovingLemmas.{bits-of-bytes}
-use Rattle.storage_ops.specs.Effects.{split, writes_of}
+use Rattle.storage_ops.specs.Effects.{split, zeros, writes_of}
 
 -- the weight of a byte as a power of two
 pub weight_is : (size : ℕ) → size < 8 → 1 * 2 ^ (8 * size) % 18446744073709551616 ≡ 256 ^ size
@@ -90,3 +90,29 @@ pub ram-twice : (step thread : ℕ) (ram : List ℕ) (p q : Part) (second : Opti
     (let between = written ram (write_row step thread ram p.at p.size (value % 256 ^ p.size)) in written between (write_row step thread between q.at q.size (value / 256 ^ p.size))) ≡ ram_after ram (writes_of step thread ram (split value (p ∷ listed_second second)))
 unfolding ram_after
 ram-twice step thread ram p q second value size is whole fits = rw (rows-twice step thread ram p q second value size is whole fits) refl
+
+-- each row has the right bytes
+row-right : (step thread : ℕ) (ram : List ℕ) (at size value : ℕ) → 1 ≤ size → size ≤ 8 → at + size ≤ length ram → value < 256 ^ size → IsWrite ram (write_row step thread ram at size value)
+row-right step thread ram at size value some most within fits = record { size = (some, most); within = within; old = refl; new = fits }
+
+pub split-right : (step thread : ℕ) (ram : List ℕ) (p : Part) (second : Option Part) (value size : ℕ) → AreWithin (length ram) (p ∷ listed_second second) → 1 ≤ p.size → IsSome second → p.size + bytes_of_second second ≡ size → size ≤ 8 →
+    AreWrites ram (writes_of step thread ram (split value (p ∷ listed_second second)))
+unfolding AreWrites
+split-right step thread ram p None value size within some more whole most =
+    (row-right step thread ram p.at p.size (value % 256 ^ p.size) some (omega (arith, whole, most)) within.0 (mod-lt value (power-some p.size)), tt)
+split-right step thread ram p (Some q) value size within some more whole most =
+    let row = write_row step thread ram p.at p.size (value % 256 ^ p.size) in
+    let same : length (written ram row) ≡ length ram = length-row ram row within.0 in (
+      row-right step thread ram p.at p.size (value % 256 ^ p.size) some (omega (arith, whole, most)) within.0 (mod-lt value (power-some p.size)),
+      (row-right step thread (written ram row) q.at q.size (value / 256 ^ p.size % 256 ^ q.size) more (omega (arith, whole, most)) (rw same within.1.0) (mod-lt (value / 256 ^ p.size) (power-some q.size)), tt),
+    )
+
+pub zeros-right : (step thread : ℕ) (ram : List ℕ) (count at : ℕ) → at + 8 * count ≤ length ram → AreWrites ram (writes_of step thread ram (zeros count at))
+unfolding AreWrites
+zeros-right step thread ram zero at within = tt
+zeros-right step thread ram (suc count) at within =
+    let row = write_row step thread ram at 8 0 in
+    let same : length (written ram row) ≡ length ram = length-row ram row (omega (arith, within)) in (
+      row-right step thread ram at 8 0 (omega arith) (omega arith) (omega (arith, within)) (power-some 8),
+      zeros-right step thread (written ram row) count (at + 8) (rw same (omega (arith, within))),
+    )

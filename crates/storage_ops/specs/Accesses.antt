@@ -5,7 +5,7 @@ use Rattle.journal_core.specs.declared.asks.Found.{Found}
 use Rattle.journal_core.specs.declared.rows.WriteRow.{WriteRow}
 use Rattle.journal_core.specs.declared.rows.DeviceRow.{DeviceRow}
 use Rattle.journal_core.specs.declared.rows.StepEnd.{StepEnd}
-use Rattle.journal_core.specs.Past.{ram_after}
+use Rattle.journal_core.specs.Past.{ram_after, AreWrites}
 use Rattle.journal_core.specs.Rows.{JournalView}
 use Rattle.journal_core.specs.Turns.{Mark, Query}
 use Rattle.form_outcomes.specs.Outcomes.{Outcome, end_of}
@@ -34,14 +34,15 @@ abbrev pub with_writes : JournalView → List WriteRow → JournalView
 with_writes j writes = record j { rows = record j.rows { writes = j.rows.writes ++ writes } }
 
 -- What is to stand behind a form was carried out, in the step that is being made by the thread of this number. It may go by the
--- value that a device gave. Write rows, and at most one device row, came at the end; storage, the port and its windows are
--- those behind these rows.
+-- value that a device gave. Write rows, each with the right bytes, and at most one device row, came at the end; storage, the port
+-- and its windows are those behind these rows.
 pub record IsCarried {P : Type 0} (related : P → DeviceRow → P → Type 0) (windows : P → List (Option Window)) (number : ℕ) (after : ℕ → After) (old new : Scene P) : Type 0 where
   pub writes : List WriteRow
   pub devices : List DeviceRow
   pub journal : new.journal ≡ record old.journal { rows = record old.journal.rows { writes = old.journal.rows.writes ++ writes; devices = old.journal.rows.devices ++ devices } }
   pub thread : new.thread ≡ (after (answer_in devices)).thread
   pub write : writes ≡ writes_of (length old.journal.rows.steps) number old.ram (after (answer_in devices)).stored
+  pub right : AreWrites old.ram writes
   pub device : AreAsked (length old.journal.rows.steps) (after (answer_in devices)).asked devices
   pub ram : new.ram ≡ ram_after old.ram writes
   pub port : Chain related old.port devices new.port

@@ -11,7 +11,7 @@ use Rattle.journal_core.specs.declared.rows.StepEnd.TheVariants.{Stopped}
 use Rattle.journal_core.specs.declared.rows.StopName.TheVariants.{DeviceStop}
 use Rattle.journal_core.specs.Bytes.{le_value}
 use Rattle.journal_core.specs.Past.{write_row, written}
-use Rattle.form_outcomes.specs.Outcomes.{Outcome, Goes, Takes, end_of, after_of}
+use Rattle.form_outcomes.specs.Outcomes.{Outcome, Goes, Takes, after_of}
 use Rattle.ppc_ops.specs.declared.insn.Insn.{Insn}
 use Rattle.ppc_bus.specs.Windows.{Window}
 use Rattle.ppc_bus.specs.Devices.{load_row, store_row}

@@ -1,5 +1,5 @@
 -- What a load or store of a register moves.
-use Rattle.std.specs.Prelude.{ℕ, ◌*◌, ◌%◌, ◌^◌, ◌==◌, ◌||◌, Bool, true, false, if◌then◌else◌}
+use Rattle.std.specs.Prelude.{ℕ, ◌*◌, ◌%◌, ◌^◌, true, false, if◌then◌else◌}
 use Rattle.ppc_bits.specs.Bits.{low_signed, modulo}
 use Rattle.journal_core.specs.Bytes.{le_bytes, be_value}
 use Rattle.storage_ops.specs.declared.forms.AccessForm.{AccessForm}

@@ -7,3 +7,4 @@ pub mod Answering
 pub mod Checks
 pub mod Effects
 pub mod Accesses
+pub mod Examples

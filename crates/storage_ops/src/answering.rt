@@ -72,7 +72,10 @@ pub fn translate_parts<T: Translate, R: TableReader>(
     let first = tr.translate(reader, journal, number, &ask, moment);
     let next = match next_part(first, parts.second) {
         Some(part) => part,
-        None => return Answers { first, second: None },
+        None => return Answers {
+            first,
+            second: None,
+        },
     };
     journal.fills_are_named();
     let ask = ask_of(thread, kind, next.at);

@@ -2,6 +2,7 @@
 #![tactic(auto)]
 
 mod access_table;
+mod accesses;
 mod answering;
 mod checks;
 mod deeds;
@@ -11,7 +12,6 @@ mod moves;
 mod moving;
 mod parts;
 mod storing;
-mod accesses;
 
 pub use access_table::access_form;
 pub use accesses::{StorageOut, access};
@@ -19,3 +19,6 @@ pub use answering::Answers;
 pub use deeds::Deed;
 pub use forms::AccessForm;
 pub use parts::{Part, Parts};
+
+#[cfg(test)]
+mod tests;

@@ -37,14 +37,7 @@ fn update(thread: &mut Thread, form: &AccessForm, base: u8, at: u64)
 }
 
 /// Puts a loaded number into its register, and the effective address into RA.
-fn finish_load(
-    form: &AccessForm,
-    register: u8,
-    base: u8,
-    at: u64,
-    thread: &mut Thread,
-    value: u64,
-)
+fn finish_load(form: &AccessForm, register: u8, base: u8, at: u64, thread: &mut Thread, value: u64)
     requires size { is_size form.now.size ≡ true }
     requires value { value < 256 ^ form.now.size }
     requires register { register < 32 }

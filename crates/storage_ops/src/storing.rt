@@ -2,7 +2,7 @@
 
 ghost use Rattle.std.specs.Prelude.{◌≡◌, ◌<◌, ◌≤◌, ◌+◌, ◌*◌, ◌^◌, length};
 ghost use Rattle.journal_core.specs.Bytes.{le_value, piece};
-ghost use Rattle.journal_core.specs.Past.{ram_after, write_row, written};
+ghost use Rattle.journal_core.specs.Past.{ram_after, write_row, written, AreWrites};
 ghost use Rattle.journal_core.specs.Room.{write_places};
 ghost use Rattle.journal_core.specs.Steps.{add_write};
 ghost use Rattle.storage_ops.specs.Parts.{listed, bytes_in, AreParts, AreWithin};
@@ -109,6 +109,7 @@ pub fn store_parts(
     requires room { length journal.old.rows.writes + 2 ≤ write_places journal.old.reserved }
     requires moment { moment ≡ length journal.old.rows.steps }
     ensures ram { store.new.ram ≡ ram_after store.old.ram (writes_of moment number store.old.ram (split value (listed parts.now))) }
+    ensures right { AreWrites store.old.ram (writes_of moment number store.old.ram (split value (listed parts.now))) }
     ensures rows { journal.new ≡ with_writes journal.old (writes_of moment number store.old.ram (split value (listed parts.now))) }
 {
     let second = match parts.second {
@@ -134,6 +135,7 @@ pub fn clear_doublewords(
     requires room { length journal.old.rows.writes + count ≤ write_places journal.old.reserved }
     requires moment { moment ≡ length journal.old.rows.steps }
     ensures ram { store.new.ram ≡ ram_after store.old.ram (writes_of moment number store.old.ram (zeros count at)) }
+    ensures right { AreWrites store.old.ram (writes_of moment number store.old.ram (zeros count at)) }
     ensures rows { journal.new ≡ with_writes journal.old (writes_of moment number store.old.ram (zeros count at)) }
 {
     if count == 0 {

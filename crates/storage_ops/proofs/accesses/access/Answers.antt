@@ -1,7 +1,6 @@
-use Rattle.std.proofs.Common.{◌≡◌, List, sym, ◌∙◌, ap, subst}
+use Rattle.std.proofs.Common.{sym, ◌∙◌, subst}
 use Rattle.storage_ops.specs.Parts.{listed}
 use Rattle.storage_ops.specs.Reaching as reaching
-use Rattle.storage_ops.specs.Effects as effects
 use Rattle.storage_ops.specs.Accesses.{scene_of}
 use Rattle.storage_ops.proofs.AccessesLemmas.{access_misaligned, access_idle, access_ended, access_carried, same_kept}
 use Rattle.storage_ops.proofs.accesses.access.Goals as goal

@@ -1,14 +1,14 @@
-use Rattle.std.proofs.Common.{◌≡◌, ℕ, List, [], ◌∷◌, length, Option, Some, None, Bool, true, false, if◌then◌else◌, ap, sym, ◌∙◌, refl, subst}
-use Rattle.journal_core.specs.declared.rows.StepEnd.TheVariants.{Ran, Took, Stopped}
+use Rattle.std.proofs.Common.{◌≡◌, Some, None, ap, sym, ◌∙◌, refl, subst}
+use Rattle.journal_core.specs.declared.rows.StepEnd.TheVariants.{Ran}
 use Rattle.form_outcomes.specs.Outcomes.{Goes}
-use Rattle.ppc_bus.specs.Devices.{load_row, store_row}
-use Rattle.thread_regs.specs.Registers.{with_gpr, gpr}
+use Rattle.ppc_bus.specs.Devices.{load_row}
+use Rattle.thread_regs.specs.Registers.{with_gpr}
 use Rattle.storage_ops.specs.Forms as forms
-use Rattle.storage_ops.specs.Parts.{listed, is_whole, bytes_in}
+use Rattle.storage_ops.specs.Parts.{listed}
 use Rattle.storage_ops.specs.Checks as checks
 use Rattle.storage_ops.specs.Effects as effects
 use Rattle.storage_ops.specs.Accesses.{Carries, scene_of}
-use Rattle.storage_ops.proofs.MovesLemmas.{carries_plain, carries_written, carries_asked, carries_nothing, single_size, load_is_asked, store_is_asked}
+use Rattle.storage_ops.proofs.MovesLemmas.{carries_plain, carries_asked, single_size, load_is_asked}
 use Rattle.storage_ops.proofs.moves.load_bytes.Goals as goal
 
 pub returns-in-None : goal.returns-in-None

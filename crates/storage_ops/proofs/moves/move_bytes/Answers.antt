@@ -1,13 +1,10 @@
-use Rattle.std.proofs.Common.{◌≡◌, ℕ, List, [], ◌∷◌, length, Option, Some, None, Bool, true, false, if◌then◌else◌, ap, sym, ◌∙◌, refl, subst}
-use Rattle.journal_core.specs.declared.rows.StepEnd.TheVariants.{Ran, Took, Stopped}
+use Rattle.std.proofs.Common.{◌≡◌, length, Some, None, true, false, ap, sym, ◌∙◌}
+use Rattle.journal_core.specs.declared.rows.StepEnd.TheVariants.{Ran}
 use Rattle.form_outcomes.specs.Outcomes.{Goes}
-use Rattle.ppc_bus.specs.Devices.{load_row, store_row}
-use Rattle.thread_regs.specs.Registers.{with_gpr, gpr}
-use Rattle.storage_ops.specs.Forms as forms
-use Rattle.storage_ops.specs.Parts.{listed, is_whole, bytes_in}
+use Rattle.storage_ops.specs.Parts.{listed, is_whole}
 use Rattle.storage_ops.specs.Checks as checks
 use Rattle.storage_ops.specs.Effects as effects
-use Rattle.storage_ops.specs.Accesses.{Carries, scene_of}
+use Rattle.storage_ops.specs.Accesses.{scene_of}
 use Rattle.storage_ops.proofs.MovesLemmas.{carries_refused, carries_taken, carries_by}
 use Rattle.storage_ops.proofs.moves.move_bytes.Goals as goal
 

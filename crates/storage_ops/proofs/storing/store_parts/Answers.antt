@@ -4,7 +4,7 @@ use Rattle.journal_core.specs.Past.{write_row}
 use Rattle.storage_ops.specs.Accesses.{with_writes}
 use Rattle.storage_ops.specs.Parts.{AreWithin, listed_second, bytes_of_second}
 use Rattle.storage_ops.specs.declared.parts.Part.{Part}
-use Rattle.storage_ops.proofs.StoringLemmas.{power-some, rows-once, rows-twice, fits-second, length-row, ram-once, ram-twice}
+use Rattle.storage_ops.proofs.StoringLemmas.{power-some, rows-once, rows-twice, fits-second, length-row, ram-once, ram-twice, split-right}
 use Rattle.storage_ops.proofs.storing.store_parts.Goals as goal
 
 pub returns-in-None-clause-ram : goal.returns-in-None-clause-ram
@@ -15,6 +15,10 @@ pub returns-in-None-clause-rows : goal.returns-in-None-clause-rows
 returns-in-None-clause-rows c =
     let rows = rows-once c.args.moment c.args.number c.args.store.now.ram c.args.parts.now.first c.args.parts.now.second c.args.value c.args.size c.in-None.is c.requires.sizes.whole c.requires.value in
     c.store_part.ensures.row ∙ ap (λ ws. with_writes c.args.journal.now ws) (sym rows)
+
+pub returns-in-None-clause-right : goal.returns-in-None-clause-right
+returns-in-None-clause-right c =
+    split-right c.args.moment c.args.number c.args.store.now.ram c.args.parts.now.first c.args.parts.now.second c.args.value c.args.size c.requires.within c.requires.sizes.first c.requires.sizes.second c.requires.sizes.whole c.requires.most
 
 pub nonzero_rem-value : goal.nonzero_rem-value
 nonzero_rem-value c = rw c.weight-weight.ensures (power-some c.args.parts.now.first.size)
@@ -40,6 +44,10 @@ store_part-requires-3-clause-value c =
 pub returns-clause-ram : goal.returns-clause-ram
 returns-clause-ram c =
     c.store_part-3.ensures.ram ∙ (rw (c.store_part-2.ensures.ram, c.weight-weight.ensures) (ram-twice c.args.moment c.args.number c.args.store.now.ram c.args.parts.now.first c.in-Some.second c.args.parts.now.second c.args.value c.args.size c.in-Some.is c.requires.sizes.whole c.requires.value))
+
+pub returns-clause-right : goal.returns-clause-right
+returns-clause-right c =
+    split-right c.args.moment c.args.number c.args.store.now.ram c.args.parts.now.first c.args.parts.now.second c.args.value c.args.size c.requires.within c.requires.sizes.first c.requires.sizes.second c.requires.sizes.whole c.requires.most
 
 pub returns-clause-rows : goal.returns-clause-rows
 returns-clause-rows c =

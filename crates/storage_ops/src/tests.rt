@@ -1,0 +1,8 @@
+//! Accesses in hypervisor state without relocation, over a bus of the three devices.
+
+mod all_forms;
+mod bench;
+mod devices;
+mod refusals;
+mod straight;
+mod two_pages;
