@@ -149,5 +149,10 @@ pub fn traced(alloc: Global, list: &[u32], count: &str) -> Result<Outcome, Alloc
     files.add("a", &image(alloc, 0x1_0000, 0x1_0000, list)?)?;
     files.add("b", ONE_THREAD)?;
     let mut out = MemSink::open(alloc, 8192)?;
-    call(alloc, &["run", "a", "b", count, "--trace"], &mut files, &mut out)
+    call(
+        alloc,
+        &["run", "a", "b", count, "--trace"],
+        &mut files,
+        &mut out,
+    )
 }

@@ -151,7 +151,11 @@ fn two_consoles_show_their_own(rt: HostRuntime) -> Result<(), Fail> {
     };
     let line = ["run", "a", "b", "6"];
     let left = call_with(rt.alloc(), &line, &mut files, &mut out, bench)?;
-    assert!(rt; left.text.as_slice().ends_with(b"\nconsole 0 1 B\nconsole 1 1 A\n.\n"));
+    assert!(rt;
+        left.text
+            .as_slice()
+            .ends_with(b"\nconsole 0 1 B\nconsole 1 1 A\n.\n")
+    );
     Ok(())
 }
 
