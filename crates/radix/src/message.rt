@@ -2,6 +2,7 @@
 
 use crate::image_fault::ImageFault;
 use crate::last_step::{LastStep, Stop, rows_of};
+use crate::places::{BadPlace, PlugFault};
 use crate::quoted::Quoted;
 use crate::usage::WrongWord;
 use elf_image::ElfFault;
@@ -101,6 +102,15 @@ impl<'a> fmt::Display for Message<'a> {
                 let name = quoted_at(words, 1);
                 let fault = ImageFault { fault };
                 writeln!(f, "radix: {name}: {fault} (docs/FORMATS.md, \"The image\")")
+            }
+            Status::BadPlace(range, other) => {
+                let name = quoted_at(words, 1);
+                let place = BadPlace { range, other };
+                writeln!(f, "radix: {name}: {place} (docs/FORMATS.md, \"The image\")")
+            }
+            Status::BadDevice(number, reason) => {
+                let reason = PlugFault { reason };
+                writeln!(f, "radix: device {number} cannot be plugged: {reason}")
             }
             Status::Stopped(name, value) => {
                 write_last(f, "stopped in", self.story.last)?;
