@@ -45,7 +45,7 @@ radix: runs a program of a 64-bit Power ISA 3.0B machine, and prints a report of
 usage: radix run IMAGE SCHEDULE N [--trace]
        radix --help | --version
 
-  IMAGE      the file of the program: an ELF-64 executable for Power, little-endian, at most 64 MiB
+  IMAGE      the file of the program: a little-endian ELF-64 executable for Power, at most 64 MiB
   SCHEDULE   the file that says which thread makes each step: the three lines
              'threads 1', '0' and 'repeat'
   N          how many steps to make, 0 to 1048576 in decimal

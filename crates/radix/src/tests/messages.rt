@@ -4,8 +4,9 @@ use crate::information::HELP;
 use crate::last_step::LastStep;
 use crate::message::{Message, Story};
 use crate::usage::WrongWord;
-use elf_image::ElfFault;
+use elf_image::{ElfFault, Span};
 use journal_core::{RowKind, StopName};
+use ppc_bus::PlugReason;
 use radix_top::Status;
 use std::alloc::{AllocError, Global};
 use std::env::{Env, FillError};
@@ -101,6 +102,23 @@ fn messages_name_the_file_and_what_is_wrong(rt: HostRuntime) -> Result<(), Fail>
         (
             Status::BadSchedule(0),
             "radix: 'b': not a schedule that this version reads, from byte 0 on (docs/FORMATS.md, \"The schedule\")\n",
+        ),
+        (
+            Status::BadPlace(
+                Span {
+                    from: 0xff_fffc,
+                    to: 0x100_0004,
+                },
+                Span {
+                    from: 0,
+                    to: 0x100_0000,
+                },
+            ),
+            "radix: 'a\\u{1b}\\n\\'': addresses fffffc to 1000004 have no place in RAM, or beside 0 to 1000000 (docs/FORMATS.md, \"The image\")\n",
+        ),
+        (
+            Status::BadDevice(1, PlugReason::SlotUsed(0)),
+            "radix: device 1 cannot be plugged: its window meets that of slot 0\n",
         ),
         (Status::Memory, "radix: out of memory\n"),
         (Status::WriteFault, ""),

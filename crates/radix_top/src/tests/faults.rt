@@ -61,18 +61,16 @@ fn a_file_above_64_mib_is_too_long(rt: HostRuntime) -> Result<(), Fail> {
 
 #[test]
 fn a_failing_put_leaves_a_front_and_the_whole_run(rt: HostRuntime) -> Result<(), Fail> {
-    for number in 1..26u32 {
-        for added in [0usize, 1] {
-            let mut files = first_files(rt.alloc())?;
-            let mut out = MemSink::open(rt.alloc(), 8192)?;
-            out.fail_call(number, added)?;
-            let left = call(rt.alloc(), &RUN, &mut files, &mut out)?;
-            assert_eq!(rt; left.status, Status::WriteFault);
-            assert_eq!(rt; left.steps, Some(3));
-            assert_eq!(rt; left.devices, 0);
-            assert!(rt; left.text.len() < REPORT.len());
-            assert!(rt; REPORT.as_bytes().starts_with(left.text.as_slice()));
-        }
+    for (number, added) in [(1u32, 0usize), (2, 0), (2, 1), (13, 1), (25, 0), (25, 1)] {
+        let mut files = first_files(rt.alloc())?;
+        let mut out = MemSink::open(rt.alloc(), 8192)?;
+        out.fail_call(number, added)?;
+        let left = call(rt.alloc(), &RUN, &mut files, &mut out)?;
+        assert_eq!(rt; left.status, Status::WriteFault);
+        assert_eq!(rt; left.steps, Some(3));
+        assert_eq!(rt; left.devices, 0);
+        assert!(rt; left.text.len() < REPORT.len());
+        assert!(rt; REPORT.as_bytes().starts_with(left.text.as_slice()));
     }
     Ok(())
 }
