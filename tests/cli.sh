@@ -130,14 +130,19 @@ cp first.elf $'odd \e\nname'
 expect 0 "$report" '' run $'odd \e\nname' first.sched 3
 
 # Files that are read and are no image or no schedule.
-not_image='not an image that this version reads (docs/FORMATS.md, "The image")'
+see='(docs/FORMATS.md, "The image")'
 not_schedule='not a schedule that this version reads, from byte 0 on (docs/FORMATS.md, "The schedule")'
 : >empty
 head -c 131 first.elf >short
 { cat first.elf; printf 'x'; } >longer
-for name in empty short longer first.sched /bin/sh; do
-    expect 5 "fault image Form$line" "radix: '$name': $not_image$line" run "$name" first.sched 3
-done
+# A file that is no image: the name of the fault, what is said of it, the file.
+expect_image() {
+    expect 5 "fault image $1$line" "radix: '$3': $2 $see$line" run "$3" first.sched 3
+}
+expect_image Short 'shorter than the header of an ELF file' empty
+expect_image Short 'shorter than the header of an ELF file' first.sched
+expect_image 'Segment 0' 'header 0 has more bytes in the file than in memory, or leaves the file or the address space' short
+expect 0 "$report" '' run longer first.sched 3
 printf 'threads 1\r\n0\r\nrepeat\r\n' >crlf
 printf 'threads 1\n0\nrepeat' >cut
 printf 'threads 2\n0\nrepeat\n' >two
@@ -145,7 +150,7 @@ for name in empty crlf cut two first.elf; do
     expect 6 "fault schedule 0$line" "radix: '$name': $not_schedule$line" run first.elf "$name" 3
 done
 truncate -s 67108864 zeros
-expect 5 "fault image Form$line" "radix: 'zeros': $not_image$line" run zeros first.sched 3
+expect_image Magic 'not an ELF file' zeros
 truncate -s 67108865 zeros
 expect 4 "fault long 1$line" "radix: 'zeros': longer than 64 MiB$line" run zeros first.sched 3
 rm zeros
@@ -160,14 +165,17 @@ change_byte more_memory.elf 104 10
 expect 0 "$report" '' run more_memory.elf first.sched 3
 change_byte odd_entry.elf 24 02
 expect 0 "${report/r12 0000000000010000/r12 0000000000010002}" '' run odd_entry.elf first.sched 3
-change_byte less_memory.elf 104 08
-change_byte first_abi.elf 48 01
 change_byte not_written.elf 68 05
+expect 0 "$report" '' run not_written.elf first.sched 3
+change_byte less_memory.elf 104 08
+expect_image 'Segment 0' 'header 0 has more bytes in the file than in memory, or leaves the file or the address space' less_memory.elf
+change_byte first_abi.elf 48 01
+expect_image Abi 'not of the second version of the ABI' first_abi.elf
 change_byte big_endian.elf 5 02
+expect_image Order 'not a little-endian ELF file' big_endian.elf
 "$top/tools/make_image.sh" 0xfffff8 0xfffff8 0x38600001 0x7C831A14 0x48000000 >beyond.elf
-for name in less_memory.elf first_abi.elf not_written.elf big_endian.elf beyond.elf; do
-    expect 5 "fault image Form$line" "radix: '$name': $not_image$line" run "$name" first.sched 3
-done
+expect 10 "fault place 0000000000fffff8 0000000001000004 0000000000000000 0000000001000000$line" \
+    "radix: 'beyond.elf': addresses fffff8 to 1000004 have no place in RAM, or beside 0 to 1000000 $see$line" run beyond.elf first.sched 3
 "$top/tools/make_image.sh" 0xfffff4 0xfffff4 0x38600001 0x7C831A14 0x48000000 >last.elf
 last=${report/nia 0000000000010008/nia 0000000000fffffc}
 expect 0 "${last/r12 0000000000010000/r12 0000000000fffff4}" '' run last.elf first.sched 3
@@ -196,6 +204,27 @@ compare 'what is said of a stop' err "radix: stopped in step 2, at address 10008
 [ $? -eq 13 ] || fail 'exit status of a stop' 13 other
 compare 'what is said of a stop' err "radix: stopped in step 0, at address 1000000: NoStorage, there is no RAM at real address 1000000 (docs/MACHINE.md, \"Stops\")$line"
 count=$((count + 3))
+
+# The trace of a store across a page, and a console's line of all that a journal can hold.
+"$top/tools/make_image.sh" 0x10000 0x10000 0x3860FFFF 0x3C800002 0xF864FFFC 0xE8A4FFFC >store.elf
+"$program" run store.elf first.sched 4 --trace >out 2>err || fail 'a trace' 0 $?
+tail -n 7 out >tail
+compare 'the rows of a trace' tail "s 0 0 ran 0000000000010000 3860ffff R0000000000010000 - -
+s 1 0 ran 0000000000010004 3c800002 R0000000000010004 - -
+s 2 0 ran 0000000000010008 f864fffc R0000000000010008 R000000000001fffc R0000000000020000
+s 3 0 ran 000000000001000c e8a4fffc R000000000001000c R000000000001fffc R0000000000020000
+w 2 0 000000000001fffc 4 0000000000000000 00000000ffffffff
+w 2 0 0000000000020000 4 0000000000000000 00000000ffffffff
+.$line"
+expect_usage 5 "unexpected '--trace'" run store.elf first.sched 4 --trace --trace
+expect_usage 3 "N is '--trace', and must be 0 to 1048576 in decimal" run store.elf first.sched --trace 4
+"$top/tools/make_image.sh" 0x10000 0x10000 0x3C801000 0x98640000 0x4BFFFFFC >full.elf
+"$program" run full.elf first.sched 1048576 >out 2>err
+[ $? -eq 14 ] || fail 'exit status of a full journal' 14 other
+[ "$(sed -n 2,4p out | tr '\n' ' ')" = 'end full devices 262144 steps 524288 tb 0000000000080000 ' ] || fail 'a full journal' 'end full devices 262144' "$(sed -n 2,4p out)"
+[ "$(wc -c <out)" -eq 1049818 ] || fail 'the length of a report' 1049818 "$(wc -c <out)"
+compare 'what is said of a full journal' err "radix: no room in the journal after step 524287, at address 10004, word 98640000: its list of devices has 262144 rows (docs/MACHINE.md, \"Limits\")$line"
+count=$((count + 2))
 
 # Output that is not taken: a closed pipe, a full disk, no standard output, no standard error.
 { sleep 0.2; "$program" run first.elf first.sched 3 2>err; echo $? >status; } | true

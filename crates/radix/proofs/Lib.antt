@@ -1,3 +1,4 @@
 mod Cut
 mod Gathered
 mod Written
+mod Viewed

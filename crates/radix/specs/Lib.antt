@@ -4,3 +4,5 @@ pub mod Gathering
 pub mod Informing
 pub mod Outgoing
 pub mod Shelf
+pub mod Standard
+pub mod Views

@@ -1,6 +1,6 @@
 //! One call of the program over real files and the standard output.
 
-ghost use Rattle.std.specs.Prelude.{◌≡◌, ◌≢◌, ◌⊎◌, []};
+ghost use Rattle.std.specs.Prelude.{◌≡◌, ◌≢◌, ◌⊎◌, [], IfOk};
 ghost use Rattle.radix_top.specs.declared.status.Refusal.TheVariants.{Memory, Usage};
 ghost use Rattle.radix_top.specs.declared.status.Status.TheVariants.{WriteFault};
 ghost use Rattle.radix_top.specs.Statuses.{refused_status};
@@ -14,9 +14,13 @@ use crate::last_step::last_step;
 use crate::message::{Message, Story};
 use crate::real_files::RealFiles;
 use crate::real_sink::RealSink;
+use crate::standard::bench_of;
 use crate::usage::WrongWord;
+use bench_devices::{Console, Control, Tape};
 use outer_io::{Sink, SinkFault};
-use radix_top::{Bench, Refusal, Status, fault_line, radix_call, read_command, refused_status};
+use ppc_bus::Device;
+use radix_top::{Refusal, Status, fault_line, radix_call, read_command, refused_status};
+use std::alloc::AllocError;
 use std::io::Write;
 use std::{io, rt};
 
@@ -24,6 +28,27 @@ use std::{io, rt};
 fn print_text<W: Write + Drop>(text: &[u8], out: &mut RealSink<W>) -> Result<(), SinkFault> {
     out.put(text)?;
     out.finish()
+}
+
+/// Does what the words ask for, with the program's devices. What the messages tell beside the status goes into `story`.
+fn call_with_devices<R: rt::Files + AllocGlobal, W: Write + Drop>(
+    rt: &R,
+    words: &[String],
+    out: &mut RealSink<W>,
+    story: &mut Story,
+) -> Result<Status, AllocError>
+    ensures { IfOk result (Answers words.now) }
+{
+    let alloc = rt.alloc();
+    let console: Box<dyn Device> = Box::new(alloc, Console::new())?;
+    let control: Box<dyn Device> = Box::new(alloc, Control::new())?;
+    let tape: Box<dyn Device> = Box::new(alloc, Tape::new(Vec::new(alloc)))?;
+    let mut bench = bench_of(alloc, console, control, tape)?;
+    let mut files = RealFiles::new(rt);
+    let status = radix_call(alloc, words, &mut files, out, &mut bench);
+    story.reason = files.reason();
+    story.last = last_step(&bench);
+    Ok(status)
 }
 
 /// Does what the words ask for, and writes all that is printed. What the messages tell beside the status goes into
@@ -37,11 +62,13 @@ fn call<R: rt::Files + AllocGlobal, W: Write + Drop>(
     ensures answer { Answers words.now result }
     ensures written { result ≢ WriteFault → out.new.waiting ≡ [] }
 {
-    let mut files = RealFiles::new(rt);
-    let mut bench = Bench { machine: None };
-    let status = radix_call(rt.alloc(), words, &mut files, out, &mut bench);
-    story.reason = files.reason();
-    story.last = last_step(&bench);
+    let status = match call_with_devices(rt, words, out, story) {
+        Ok(status) => status,
+        Err(_) => match out.put(fault_line(Refusal::Memory).as_slice()) {
+            Ok(()) => Status::Memory,
+            Err(SinkFault) => Status::WriteFault,
+        },
+    };
     match out.finish() {
         Ok(()) => status,
         Err(_) => Status::WriteFault,

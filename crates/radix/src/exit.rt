@@ -16,9 +16,11 @@ pub fn exit_code(status: Status) -> u8
         Status::TooLong(_) => 4,
         Status::BadImage(_) => 5,
         Status::BadSchedule(_) => 6,
+        Status::BadPlace(_, _) => 10,
         Status::WriteFault => 11,
         Status::Memory => 12,
         Status::Stopped(_, _) => 13,
         Status::JournalFull(_, _) => 14,
+        Status::BadDevice(_, _) => 16,
     }
 }

@@ -42,24 +42,27 @@ pub fn text_of(information: Information) -> &'static str {
 pub const HELP: &str = "\
 radix: runs a program of a 64-bit Power ISA 3.0B machine, and prints a report of the run.
 
-usage: radix run IMAGE SCHEDULE N
+usage: radix run IMAGE SCHEDULE N [--trace]
        radix --help | --version
 
-  IMAGE      the file of the program: an ELF-64 executable of one segment, at most 64 MiB
+  IMAGE      the file of the program: a little-endian ELF-64 executable for Power, at most 64 MiB
   SCHEDULE   the file that says which thread makes each step: the three lines
              'threads 1', '0' and 'repeat'
   N          how many steps to make, 0 to 1048576 in decimal
 
+  --trace    print each step, each change of RAM and each access of a device
   --help     print this text
   --version  print the version
 
-The machine has one thread and 16 MiB of RAM. docs/FORMATS.md describes the files and the
-report, docs/MACHINE.md the machine.
+The machine has one thread, 16 MiB of RAM, a console at address 10000000, a control device at
+10001000 and an empty tape at 10002000. docs/FORMATS.md describes the files and the report,
+docs/MACHINE.md the machine.
 
 exit status:
-   0  all steps were made                       6  not a schedule that this version reads
+   0  all steps were made                      10  the image has no place in RAM
    2  not a command of this version            11  the output could not be written
    3  a file could not be read                 12  out of memory
    4  a file is longer than 64 MiB             13  the machine stopped
-   5  not an image that this version reads     14  the journal has no room for a step
+   5  not an image                             14  the journal has no room for a step
+   6  not a schedule that this version reads   16  a device cannot be plugged
 ";

@@ -4,12 +4,15 @@
 mod call;
 mod command_line;
 mod exit;
+mod image_fault;
 mod information;
 mod last_step;
 mod message;
+mod places;
 mod quoted;
 mod real_files;
 mod real_sink;
+mod standard;
 mod usage;
 
 use call::{refuse_cut_words, refuse_for_memory, run};

@@ -1,6 +1,8 @@
 //! What standard error says of a call.
 
+use crate::image_fault::ImageFault;
 use crate::last_step::{LastStep, Stop, rows_of};
+use crate::places::{BadPlace, PlugFault};
 use crate::quoted::Quoted;
 use crate::usage::WrongWord;
 use elf_image::ElfFault;
@@ -85,13 +87,6 @@ impl<'a> fmt::Display for Message<'a> {
                 let name = quoted_at(words, place);
                 writeln!(f, "radix: {name}: longer than 64 MiB")
             }
-            Status::BadImage(ElfFault::Form) => {
-                let name = quoted_at(words, 1);
-                writeln!(
-                    f,
-                    "radix: {name}: not an image that this version reads (docs/FORMATS.md, \"The image\")"
-                )
-            }
             Status::BadSchedule(byte) => {
                 let name = quoted_at(words, 2);
                 writeln!(
@@ -102,6 +97,20 @@ impl<'a> fmt::Display for Message<'a> {
             }
             Status::BadImage(ElfFault::Memory) | Status::Memory => {
                 f.write_str("radix: out of memory\n")
+            }
+            Status::BadImage(fault) => {
+                let name = quoted_at(words, 1);
+                let fault = ImageFault { fault };
+                writeln!(f, "radix: {name}: {fault} (docs/FORMATS.md, \"The image\")")
+            }
+            Status::BadPlace(range, other) => {
+                let name = quoted_at(words, 1);
+                let place = BadPlace { range, other };
+                writeln!(f, "radix: {name}: {place} (docs/FORMATS.md, \"The image\")")
+            }
+            Status::BadDevice(number, reason) => {
+                let reason = PlugFault { reason };
+                writeln!(f, "radix: device {number} cannot be plugged: {reason}")
             }
             Status::Stopped(name, value) => {
                 write_last(f, "stopped in", self.story.last)?;

@@ -1,77 +1,119 @@
 -- A run that was asked for.
-use Rattle.std.proofs.Common.{◌≡◌, ℕ, ◌≤◌, List, length, Option, Ok, sym, ap, ◌∙◌, inr, subst, arith}
+use Rattle.std.proofs.Common.{◌≡◌, ℕ, ◌≤◌, List, [], length, Option, Some, Ok, refl, sym, ap, ◌∙◌, inr, subst, arith}
 use Rattle.std.specs.Prelude.{IfSome}
 use Rattle.outer_io.specs.Outside.{added}
 use Rattle.journal_core.specs.Rows.{JournalView}
+use Rattle.journal_core.specs.Past.{ram_before}
 use Rattle.journal_core.specs.declared.rows.Ended.{Ended}
 use Rattle.journal_core.specs.declared.rows.Ended.TheVariants as ends
+use Rattle.ppc_bus.specs.Answers.{DeviceAnswers}
+use Rattle.ppc_bus.proofs.ChainLemmas.{chain_answers}
+use Rattle.thread_regs.proofs.ResetLemmas.{length-reset_from}
+use Rattle.elf_image.specs.declared.image.Image.{Image}
+use Rattle.elf_image.specs.declared.guests.Guest.{Guest}
 use Rattle.elf_image.specs.IsImage.{IsImage}
 use Rattle.sched_text.specs.Reading.{plan_of}
 use Rattle.ppc_machine.specs.States.{State}
-use Rattle.ppc_machine.specs.Start.{start}
-use Rattle.ppc_machine.specs.MachineView.{MachineView, now_of, start_of}
 use Rattle.ppc_machine.specs.Rule.{IsLawfulRun}
-use Rattle.ppc_machine.specs.Machines.{opened, RunsTo}
-use Rattle.ppc_machine.proofs.OpenLemmas.{start_of-opened}
+use Rattle.ppc_machine.specs.declared.plugging.PluggedOf.{PluggedOf}
+use Rattle.ppc_machine.specs.MachineView.{MachineView, now_of, start_of}
+use Rattle.ppc_machine.specs.Plugging.{windows_for, slots_for}
+use Rattle.ppc_machine.specs.Opening.{start, opened}
+use Rattle.ppc_machine.specs.Machines.{RunsTo}
 use Rattle.radix_top.specs.declared.command.Command.TheVariants.{Run}
 use Rattle.radix_top.specs.declared.inputs.RunInputs.{RunInputs}
 use Rattle.radix_top.specs.declared.status.Status.{Status}
 use Rattle.radix_top.specs.declared.status.Status.TheVariants as statuses
 use Rattle.radix_top.specs.Statuses.{ended_status}
 use Rattle.radix_top.specs.Words.{Text, word_at, command_of}
-use Rattle.radix_top.specs.Inputs.{FilesSeen, most, WasReadAs}
-use Rattle.radix_top.specs.Calls.{ram_mib, IsRunOf, report_of, Ran, Says}
+use Rattle.radix_top.specs.Inputs.{FilesSeen, most, WasReadAs, AsksFor}
+use Rattle.radix_top.specs.Devices.{DevicesSeen, windows_in, DevicesAnswer}
+use Rattle.radix_top.specs.Causes.{ram_mib}
+use Rattle.radix_top.specs.Calls.{BenchSeen, leaves, IsLawfulFrom, EndsSo, IsRunOf, WasRun, report_of, Ran, Says}
 use Rattle.radix_top.specs.Printed.{RunsReady}
 
 -- what was prepared is what the words ask for
 pub record IsPrepared (m : FilesSeen) (words : List Text) (ready : RunInputs) : Type 0 where
-  pub command : command_of words ≡ Ok (Run ready.count)
+  pub command : command_of words ≡ Ok (Run ready.count ready.options)
   pub image : IfSome (m.told (word_at words 1)) (λ bytes. (length bytes ≤ most) × IsImage bytes ready.image)
   pub schedule : WasReadAs m (word_at words 2) (λ bytes. plan_of bytes ≡ Ok ready.schedule)
 
-is_run_of : (m : FilesSeen) (words : List Text) (ready : RunInputs) (machine : MachineView) (end : Ended) → IsPrepared m words ready →
-    RunsTo ready.schedule ready.count (opened ready.image ram_mib 1 ready.count) machine end → IsRunOf m words machine end
-is_run_of m words ready machine end prepared run =
-    let begins : start_of machine ≡ start ready.image ram_mib 1 = run.start ∙ start_of-opened ready.image ram_mib 1 ready.count in
+abbrev pub asks_for : (m : FilesSeen) (words : List Text) (ready : RunInputs) → IsPrepared m words ready → AsksFor m words
+asks_for m words ready prepared = record {
+  count = ready.count;
+  options = ready.options;
+  image = ready.image;
+  plan = ready.schedule;
+  is_command = prepared.command;
+  image_file = prepared.image;
+  schedule_file = prepared.schedule;
+}
+
+-- the machine that a prepared command opens with some devices
+abbrev pub opened_for : {D : Type 0} → RunInputs → DevicesSeen D → MachineView D
+opened_for ready d = opened d.size ready.image [] ram_mib 1 d.devices ready.count
+
+-- a machine that was just opened began as it is
+start_of-opened : {D : Type 0} (size : D → ℕ) (image : Image) (guests : List Guest) (mib threads : ℕ) (devices : List (PluggedOf D)) (steps : ℕ) →
+    start_of (opened size image guests mib threads devices steps) ≡ start image guests mib threads (windows_for size devices)
+unfolding start_of ram_before
+start_of-opened size image guests mib threads devices steps = rw (length-reset_from 0 threads image.entry) refl
+
+-- the new device rows are all rows where there were none
+answered : {D : Type 0} (d : DevicesSeen D) (ready : RunInputs) (machine : MachineView D) (end : Ended) → RunsTo (DeviceAnswers d.list d.answers) ready.schedule ready.count (opened_for ready d) machine end → DevicesAnswer d machine.journal.rows.devices
+answered d ready machine end run = λ slot.
+    rw run.devices.added (chain_answers d.list d.answers (slots_for d.size d.devices) machine.slots run.devices.rows slot run.devices.chain)
+
+abbrev is_run_of : {D : Type 0} (m : FilesSeen) (words : List Text) (d : DevicesSeen D) (ready : RunInputs) (machine : MachineView D) (end : Ended) (prepared : IsPrepared m words ready) →
+    RunsTo (DeviceAnswers d.list d.answers) ready.schedule ready.count (opened_for ready d) machine end → IsRunOf m words d machine end
+is_run_of m words d ready machine end prepared run =
+    let begins : start_of machine ≡ start ready.image [] ram_mib 1 (windows_in d) = run.start ∙ start_of-opened d.size ready.image [] ram_mib 1 d.devices ready.count in
     let places : machine.journal.reserved ≡ ready.count = ap (λ (j : JournalView). j.reserved) run.grows.rows in
-    record {
-      count = ready.count;
-      image = ready.image;
-      plan = ready.schedule;
-      is_command = prepared.command;
-      image_file = prepared.image;
-      schedule_file = prepared.schedule;
+    let lawful : IsLawfulFrom m words (asks_for m words ready prepared) d machine = record {
       places = places;
       floor = ap (λ (j : JournalView). j.floor) run.grows.rows;
       begins = begins;
       lawful = subst (λ (s : State). IsLawfulRun s machine.journal.rows (now_of machine)) begins run.lawful;
+      answers = answered d ready machine end run;
+    } in
+    let ends_so : EndsSo ready.count ready.schedule machine end = record {
       turns = λ k below. run.turns k (omega arith) below;
       ended = rw places at run.ended;
       exact = λ k below. run.exact k (omega arith) below;
-    }
+    } in
+    record { asks = asks_for m words ready prepared; lawful = lawful; ends = ends_so }
 
-says_end : (m : FilesSeen) (words : List Text) (machine : Option MachineView) (f f' : ℕ) (old new : Option (List ℕ)) (end : Ended) → Ran m words machine old new end → Says m words machine f f' old new (ended_status end)
-says_end m words machine f f' old new ends.AllRun ran = ran
-says_end m words machine f f' old new ends.ScheduleEnd ran = ran
-says_end m words machine f f' old new (ends.Stopped name value) ran = ran
-says_end m words machine f f' old new (ends.JournalFull kind count) ran = ran
+says_end : {D : Type 0} (m : FilesSeen) (words : List Text) (d : DevicesSeen D) (left : BenchSeen D) (f f' : ℕ) (old new : Option (List ℕ)) (end : Ended) → Ran m words d left old new end → Says m words d left f f' old new (ended_status end)
+says_end m words d left f f' old new ends.AllRun ran = ran
+says_end m words d left f f' old new ends.ScheduleEnd ran = ran
+says_end m words d left f f' old new (ends.Stopped name value) ran = ran
+says_end m words d left f f' old new (ends.JournalFull kind count) ran = ran
 
-says_whole : (m : FilesSeen) (words : List Text) (ready : RunInputs) (machine : Option MachineView) (f f' : ℕ) (old new : Option (List ℕ)) (s s' : Status) (runs : RunsReady ready machine f f' old new s') → IsPrepared m words ready →
-    (s ≡ ended_status runs.end) × (new ≡ added old (report_of runs.held runs.end)) → Says m words machine f f' old new s
-says_whole m words ready machine f f' old new s s' runs prepared prints =
-    subst (Says m words machine f f' old new) (sym prints.0)
-    (says_end m words machine f f' old new runs.end (record { opened = runs.held; there = runs.there; run = is_run_of m words ready runs.held runs.end prepared runs.run; printed = prints.1 }))
+abbrev was_run : {D : Type 0} (m : FilesSeen) (words : List Text) (d : DevicesSeen D) (ready : RunInputs) (left : BenchSeen D) (machine : MachineView D) (f f' : ℕ) (old new : Option (List ℕ)) (s : Status) → IsPrepared m words ready → left ≡ leaves (Some machine) [] →
+    (runs : RunsReady d.list d.answers ready (opened_for ready d) machine f f' old new s) → WasRun m words d left runs.end
+was_run m words d ready left machine f f' old new s prepared is runs =
+    record { machine = machine; there = ap (λ (b : BenchSeen _). b.machine) is; handed_over = ap (λ (b : BenchSeen _). b.devices) is; run = is_run_of m words d ready machine runs.end prepared runs.run }
+
+says_whole : {D : Type 0} (m : FilesSeen) (words : List Text) (d : DevicesSeen D) (ready : RunInputs) (left : BenchSeen D) (machine : MachineView D) (f f' : ℕ) (old new : Option (List ℕ)) (s s' : Status) → IsPrepared m words ready → left ≡ leaves (Some machine) [] →
+    (runs : RunsReady d.list d.answers ready (opened_for ready d) machine f f' old new s') →
+    (s ≡ ended_status runs.end) × (new ≡ added old (report_of machine runs.end ready.options)) → Says m words d left f f' old new s
+says_whole m words d ready left machine f f' old new s s' prepared is runs prints =
+    subst (Says m words d left f f' old new) (sym prints.0)
+    (says_end m words d left f f' old new runs.end (record { was_run = was_run m words d ready left machine f f' old new s' prepared is runs; printed = prints.1 }))
 
 -- a run whose report was printed, or cut short
-pub says_ran : (m : FilesSeen) (words : List Text) (ready : RunInputs) (machine : Option MachineView) (f f' : ℕ) (old new : Option (List ℕ)) (s : Status) → IsPrepared m words ready → RunsReady ready machine f f' old new s → Says m words machine f f' old new s
-says_ran m words ready machine f f' old new statuses.WriteFault prepared runs =
-    (runs.prints.0, inr (record { end = runs.end; opened = runs.held; there = runs.there; run = is_run_of m words ready runs.held runs.end prepared runs.run; front = runs.prints.1 }))
-says_ran m words ready machine f f' old new (statuses.Done e) prepared runs = says_whole m words ready machine f f' old new _ _ runs prepared runs.prints
-says_ran m words ready machine f f' old new (statuses.Usage p) prepared runs = says_whole m words ready machine f f' old new _ _ runs prepared runs.prints
-says_ran m words ready machine f f' old new (statuses.ReadFault p) prepared runs = says_whole m words ready machine f f' old new _ _ runs prepared runs.prints
-says_ran m words ready machine f f' old new (statuses.TooLong p) prepared runs = says_whole m words ready machine f f' old new _ _ runs prepared runs.prints
-says_ran m words ready machine f f' old new (statuses.BadImage x) prepared runs = says_whole m words ready machine f f' old new _ _ runs prepared runs.prints
-says_ran m words ready machine f f' old new (statuses.BadSchedule p) prepared runs = says_whole m words ready machine f f' old new _ _ runs prepared runs.prints
-says_ran m words ready machine f f' old new statuses.Memory prepared runs = says_whole m words ready machine f f' old new _ _ runs prepared runs.prints
-says_ran m words ready machine f f' old new (statuses.Stopped n v) prepared runs = says_whole m words ready machine f f' old new _ _ runs prepared runs.prints
-says_ran m words ready machine f f' old new (statuses.JournalFull k c) prepared runs = says_whole m words ready machine f f' old new _ _ runs prepared runs.prints
+pub says_ran : {D : Type 0} (m : FilesSeen) (words : List Text) (d : DevicesSeen D) (ready : RunInputs) (left : BenchSeen D) (machine : MachineView D) (f f' : ℕ) (old new : Option (List ℕ)) (s : Status) → IsPrepared m words ready → left ≡ leaves (Some machine) [] →
+    RunsReady d.list d.answers ready (opened_for ready d) machine f f' old new s → Says m words d left f f' old new s
+says_ran m words d ready left machine f f' old new statuses.WriteFault prepared is runs =
+    (runs.prints.0, inr (record { end = runs.end; was_run = was_run m words d ready left machine f f' old new statuses.WriteFault prepared is runs; front = runs.prints.1 }))
+says_ran m words d ready left machine f f' old new (statuses.Done e) prepared is runs = says_whole m words d ready left machine f f' old new _ _ prepared is runs runs.prints
+says_ran m words d ready left machine f f' old new (statuses.Usage p) prepared is runs = says_whole m words d ready left machine f f' old new _ _ prepared is runs runs.prints
+says_ran m words d ready left machine f f' old new (statuses.ReadFault p) prepared is runs = says_whole m words d ready left machine f f' old new _ _ prepared is runs runs.prints
+says_ran m words d ready left machine f f' old new (statuses.TooLong p) prepared is runs = says_whole m words d ready left machine f f' old new _ _ prepared is runs runs.prints
+says_ran m words d ready left machine f f' old new (statuses.BadImage x) prepared is runs = says_whole m words d ready left machine f f' old new _ _ prepared is runs runs.prints
+says_ran m words d ready left machine f f' old new (statuses.BadSchedule p) prepared is runs = says_whole m words d ready left machine f f' old new _ _ prepared is runs runs.prints
+says_ran m words d ready left machine f f' old new (statuses.BadPlace a b) prepared is runs = says_whole m words d ready left machine f f' old new _ _ prepared is runs runs.prints
+says_ran m words d ready left machine f f' old new (statuses.BadDevice i x) prepared is runs = says_whole m words d ready left machine f f' old new _ _ prepared is runs runs.prints
+says_ran m words d ready left machine f f' old new statuses.Memory prepared is runs = says_whole m words d ready left machine f f' old new _ _ prepared is runs runs.prints
+says_ran m words d ready left machine f f' old new (statuses.Stopped n v) prepared is runs = says_whole m words d ready left machine f f' old new _ _ prepared is runs runs.prints
+says_ran m words d ready left machine f f' old new (statuses.JournalFull k c) prepared is runs = says_whole m words d ready left machine f f' old new _ _ prepared is runs runs.prints

@@ -1,13 +1,19 @@
 -- Why a call is refused, and the line that it prints then.
-use Rattle.std.specs.Prelude.{◌≡◌, ◌++◌, ℕ, List, Err, codes}
+use Rattle.std.specs.Prelude.{◌≡◌, ◌++◌, ℕ, List, [], Some, None, Err, codes}
 use Rattle.std.specs.Fmt.{decimal}
-use Rattle.line_text.specs.Text.{end_of_line}
+use Rattle.line_text.specs.Text.{hex, end_of_line}
+use Rattle.ppc_bus.specs.Windows.{Window}
+use Rattle.ppc_bus.specs.declared.faults.PlugReason.{PlugReason}
+use Rattle.ppc_bus.specs.declared.faults.PlugReason.TheVariants as plug_reasons
+use Rattle.elf_image.specs.declared.span.Span.{Span}
+use Rattle.elf_image.specs.Places.{bad_place_of}
+use Rattle.ppc_machine.specs.Plugging.{first_refused}
 use Rattle.elf_image.specs.declared.fault.ElfFault.{ElfFault}
 use Rattle.elf_image.specs.declared.fault.ElfFault.TheVariants as elf_faults
 use Rattle.radix_top.specs.declared.status.Refusal.{Refusal}
 use Rattle.radix_top.specs.declared.status.Refusal.TheVariants as refusals
 use Rattle.radix_top.specs.Words.{Text, command_of}
-use Rattle.radix_top.specs.Inputs.{FilesSeen, FileWord, Reaches, FileFails}
+use Rattle.radix_top.specs.Inputs.{FilesSeen, FileWord, Reaches, FileFails, AsksFor}
 
 -- the refusal is about a file that the command comes to read
 pub record FailsAtFile (m : FilesSeen) (words : List Text) (r : Refusal) : Type 0 where
@@ -15,19 +21,56 @@ pub record FailsAtFile (m : FilesSeen) (words : List Text) (r : Refusal) : Type 
   pub reaches : Reaches m words file
   pub fails : FileFails m file r
 
--- why a call is refused; memory that ran out has no cause
-abbrev pub HasCause : FilesSeen → List Text → Refusal → Type 0
-HasCause m words (refusals.Usage place) = command_of words ≡ Err place
-HasCause m words (refusals.ReadFault place) = FailsAtFile m words (refusals.ReadFault place)
-HasCause m words (refusals.TooLong place) = FailsAtFile m words (refusals.TooLong place)
-HasCause m words (refusals.BadImage fault) = FailsAtFile m words (refusals.BadImage fault)
-HasCause m words (refusals.BadSchedule place) = FailsAtFile m words (refusals.BadSchedule place)
-HasCause m words refusals.Memory = Unit {0}
+-- RAM of a run, in MiB
+abbrev pub ram_mib : ℕ
+ram_mib = 16
 
--- the name of an image's fault
+-- the first range of the image that leaves RAM, or meets one before it, and what it has no place beside
+pub record FailsAtPlace (m : FilesSeen) (words : List Text) (range other : Span) : Type 0 where
+  pub asks : AsksFor m words
+  pub place : bad_place_of asks.image [] ram_mib ≡ Some (range, other)
+
+-- the image has its place, and the first of the devices with these windows that is not plugged has this number
+pub record FailsAtDevice (m : FilesSeen) (words : List Text) (windows : List Window) (number : ℕ) (reason : PlugReason) : Type 0 where
+  pub asks : AsksFor m words
+  pub place : bad_place_of asks.image [] ram_mib ≡ None
+  pub device : first_refused 0 [] windows ≡ Some (number, reason)
+
+-- why a call with devices of these windows is refused; memory that ran out has no cause
+abbrev pub HasCause : FilesSeen → List Text → List Window → Refusal → Type 0
+HasCause m words windows (refusals.Usage place) = command_of words ≡ Err place
+HasCause m words windows (refusals.ReadFault place) = FailsAtFile m words (refusals.ReadFault place)
+HasCause m words windows (refusals.TooLong place) = FailsAtFile m words (refusals.TooLong place)
+HasCause m words windows (refusals.BadImage fault) = FailsAtFile m words (refusals.BadImage fault)
+HasCause m words windows (refusals.BadSchedule place) = FailsAtFile m words (refusals.BadSchedule place)
+HasCause m words windows (refusals.BadPlace range other) = FailsAtPlace m words range other
+HasCause m words windows (refusals.BadDevice number reason) = FailsAtDevice m words windows number reason
+HasCause m words windows refusals.Memory = Unit {0}
+
+-- the name of an image's fault, and its numbers
 abbrev pub elf_name : ElfFault → List ℕ
-elf_name elf_faults.Form = codes "Form"
+elf_name elf_faults.Short = codes "Short"
+elf_name elf_faults.Magic = codes "Magic"
+elf_name elf_faults.Class = codes "Class"
+elf_name elf_faults.Order = codes "Order"
+elf_name elf_faults.Machine = codes "Machine"
+elf_name elf_faults.Abi = codes "Abi"
+elf_name elf_faults.FileType = codes "FileType"
+elf_name elf_faults.Header = codes "Header"
+elf_name elf_faults.TooMany = codes "TooMany"
+elf_name (elf_faults.Segment number) = codes "Segment " ++ decimal number
+elf_name (elf_faults.Overlap i j) = codes "Overlap " ++ decimal i ++ codes " " ++ decimal j
 elf_name elf_faults.Memory = codes "Memory"
+
+-- the two ends of a range
+abbrev pub span_text : Span → List ℕ
+span_text range = codes " " ++ hex 16 range.from ++ codes " " ++ hex 16 range.to
+
+-- the name of the reason why a device is not plugged, and the slot that its window meets
+abbrev pub plug_name : PlugReason → List ℕ
+plug_name plug_reasons.SlotsFull = codes "SlotsFull"
+plug_name plug_reasons.BadWindow = codes "BadWindow"
+plug_name (plug_reasons.SlotUsed slot) = codes "SlotUsed " ++ decimal slot
 
 -- the line of a refusal
 abbrev pub fault_line : Refusal → List ℕ
@@ -36,4 +79,6 @@ fault_line (refusals.ReadFault place) = codes "fault read " ++ decimal place ++ 
 fault_line (refusals.TooLong place) = codes "fault long " ++ decimal place ++ end_of_line
 fault_line (refusals.BadImage fault) = codes "fault image " ++ elf_name fault ++ end_of_line
 fault_line (refusals.BadSchedule place) = codes "fault schedule " ++ decimal place ++ end_of_line
+fault_line (refusals.BadPlace range other) = codes "fault place" ++ span_text range ++ span_text other ++ end_of_line
+fault_line (refusals.BadDevice number reason) = codes "fault device " ++ decimal number ++ codes " " ++ plug_name reason ++ end_of_line
 fault_line refusals.Memory = codes "fault memory" ++ end_of_line

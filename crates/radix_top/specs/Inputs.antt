@@ -1,5 +1,5 @@
 -- The files that a command reads, in the order in which it reads them.
-use Rattle.std.specs.Prelude.{◌≡◌, ◌⊎◌, ◌<◌, ◌≤◌, ℕ, List, [], ◌∷◌, length, Option, Some, IfSome, Ok, Err}
+use Rattle.std.specs.Prelude.{◌≡◌, ◌≢◌, ◌⊎◌, ◌<◌, ◌≤◌, ℕ, List, [], ◌∷◌, length, Option, Some, IfSome, Ok, Err}
 use Rattle.outer_io.specs.Outside.{Asked, CountRose}
 use Rattle.outer_io.specs.declared.files.Answer.{Answer}
 use Rattle.outer_io.specs.declared.files.Answer.TheVariants as answers
@@ -10,6 +10,7 @@ use Rattle.sched_text.specs.Plan.{Plan}
 use Rattle.sched_text.specs.Reading.{plan_of}
 use Rattle.radix_top.specs.declared.command.Command.{Command}
 use Rattle.radix_top.specs.declared.command.Command.TheVariants.{Run}
+use Rattle.radix_top.specs.declared.command.Options.{Options}
 use Rattle.radix_top.specs.declared.status.Refusal.{Refusal}
 use Rattle.radix_top.specs.declared.status.Refusal.TheVariants as refusals
 use Rattle.radix_top.specs.Words.{Text, word_at, command_of}
@@ -37,7 +38,7 @@ schedule_word words = record { place = 2; name = word_at words 2; kind = Schedul
 
 -- the files of a command, in order
 abbrev pub files_of : List Text → Command → List FileWord
-files_of words (Run count) = image_word words ∷ schedule_word words ∷ []
+files_of words (Run count options) = image_word words ∷ schedule_word words ∷ []
 
 -- the bytes are good for what they are read as
 abbrev pub IsGood : FileKind → List ℕ → Type 0
@@ -89,12 +90,24 @@ WasTooLong m name = (m.last ≡ Some (asked name answers.TooLong)) × IfSome (m.
 abbrev pub WasReadAs : FilesSeen → List ℕ → (List ℕ → Type 0) → Type 0
 WasReadAs m name P = WasRead m name × IfSome (m.told name) (λ bytes. (length bytes ≤ most) × P bytes)
 
+-- what the words ask for: the count and the options of a run, and the image and the schedule that its files are, as far as their
+-- bytes are known
+pub record AsksFor (m : FilesSeen) (words : List Text) : Type 0 where
+  pub count : ℕ
+  pub options : Options
+  pub image : Image
+  pub plan : Plan
+  pub is_command : command_of words ≡ Ok (Run count options)
+  pub image_file : IfSome (m.told (word_at words 1)) (λ bytes. (length bytes ≤ most) × IsImage bytes image)
+  pub schedule_file : WasReadAs m (word_at words 2) (λ bytes. plan_of bytes ≡ Ok plan)
+
 -- what a refusal says of the file that it is about
 abbrev pub FileFails : FilesSeen → FileWord → Refusal → Type 0
 FileFails m f (refusals.ReadFault place) = (place ≡ f.place) × FailedToRead m f.name
 FileFails m f (refusals.TooLong place) = (place ≡ f.place) × WasTooLong m f.name
-FileFails m f (refusals.BadImage elf_faults.Form) = (f.kind ≡ ImageFile) × WasReadAs m f.name (λ bytes. IsImageFault bytes elf_faults.Form)
-FileFails m f (refusals.BadImage elf_faults.Memory) = ⊥
+FileFails m f (refusals.BadImage fault) = (f.kind ≡ ImageFile) × (fault ≢ elf_faults.Memory) × WasReadAs m f.name (λ bytes. IsImageFault bytes fault)
 FileFails m f (refusals.BadSchedule place) = (f.kind ≡ ScheduleFile) × WasReadAs m f.name (λ bytes. plan_of bytes ≡ Err place)
 FileFails m f refusals.Memory = Unit {0}
 FileFails m f (refusals.Usage place) = ⊥
+FileFails m f (refusals.BadPlace range other) = ⊥
+FileFails m f (refusals.BadDevice number reason) = ⊥

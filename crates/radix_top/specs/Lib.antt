@@ -2,6 +2,7 @@ pub mod Statuses
 pub mod Words
 pub mod Inputs
 pub mod Reading
+pub mod Devices
 pub mod Causes
 pub mod Calls
 pub mod Printed

@@ -1,9 +1,9 @@
 //! The call itself.
 
-ghost use Rattle.std.specs.Prelude.{◌≡◌, ◌≤◌, ℕ, List, None};
-ghost use Rattle.ppc_machine.specs.Machines.{opened};
+ghost use Rattle.std.specs.Prelude.{◌≡◌, ◌≤◌, ℕ, List, None, length};
 ghost use Rattle.radix_top.specs.Inputs.{met};
-ghost use Rattle.radix_top.specs.Calls.{Says, ram_mib};
+ghost use Rattle.radix_top.specs.Devices.{handed, windows_in};
+ghost use Rattle.radix_top.specs.Calls.{Says, leaves};
 ghost use Rattle.radix_top.specs.Causes.{fault_line};
 ghost use Rattle.radix_top.specs.Statuses.{refused_status};
 ghost use Rattle.radix_top.specs.Printed.{PrintsAs, RunsReady};
@@ -11,15 +11,20 @@ ghost use Rattle.radix_top.specs.Laws.{AcceptsRun, EndsWell, NoReadFault, NoWrit
 
 use crate::fault_lines::fault_line;
 use crate::inputs::{RunInputs, prepare};
+use crate::opening::open_machine;
 use crate::status::{Refusal, Status, ended_status, refused_status};
 use outer_io::{Files, Sink};
-use ppc_machine::Machine;
+use ppc_bus::Device;
+use ppc_machine::{Machine, MachineOf, Plugged};
 use report_text::{ReportParts, print_report};
 use std::alloc::Global;
 
-/// Where a call leaves its machine.
+/// Where a call finds the devices for its machine, and leaves the machine.
 #[derive(Drop)]
 pub struct Bench {
+    /// The devices, in the order of the slots into which they are plugged. A machine that is opened takes them all; else they
+    /// stay here as they are.
+    pub devices: Vec<Plugged>,
     /// The machine that the call opened.
     pub machine: Option<Machine>,
 }
@@ -35,23 +40,23 @@ fn refuse<K: Sink>(refusal: Refusal, out: &mut K) -> Status
     }
 }
 
-/// Runs a machine that was just opened, leaves it in the bench, and prints its report.
-fn run_ready<K: Sink>(machine: Machine, ready: &RunInputs, out: &mut K, bench: &mut Bench) -> Status
-    requires machine { machine ≡ opened ready.now.image ram_mib 1 ready.now.count }
-    requires threads { ready.now.schedule.threads ≡ 1 }
+/// Runs a machine as a prepared command asks, and prints its report.
+fn run_ready<D: Device, K: Sink>(
+    machine: &mut MachineOf<D>,
+    ready: &RunInputs,
+    out: &mut K,
+) -> Status
+    requires { ready.now.schedule.threads ≡ length machine.old.threads }
     ensures counts { K.faults out.old ≤ K.faults out.new }
-    ensures runs { RunsReady ready.now bench.new.machine (K.faults out.old) (K.faults out.new) (K.told out.old) (K.told out.new) result }
+    ensures runs { RunsReady D.list D.answers ready.now machine.old machine.new (K.faults out.old) (K.faults out.new) (K.told out.old) (K.told out.new) result }
 {
-    let mut machine = machine;
     let ended = machine.run(&ready.schedule, ready.count);
     let parts = ReportParts {
         threads: machine.threads(),
         journal: machine.journal(),
         end: ended,
     };
-    let printed = print_report(&parts, false, out);
-    bench.machine = Some(machine);
-    match printed {
+    match print_report(&parts, ready.options.trace, out) {
         Ok(()) => ended_status(ended),
         Err(_) => Status::WriteFault,
     }
@@ -66,7 +71,8 @@ fn answer_call<F: Files, K: Sink>(
     bench: &mut Bench,
 ) -> Status
     requires { bench.old.machine ≡ None }
-    ensures answer { Says (met (F.told files.old) (F.faults files.old) (F.faults files.new) (F.last files.new)) words.now bench.new.machine
+    ensures answer { Says (met (F.told files.old) (F.faults files.old) (F.faults files.new) (F.last files.new)) words.now
+        (handed ⟦<Box<dyn Device> as Device>⟧.window_size ⟦<Box<dyn Device> as Device>⟧.list ⟦<Box<dyn Device> as Device>⟧.answers bench.old.devices.items) (leaves bench.new.machine bench.new.devices.items)
         (K.faults out.old) (K.faults out.new) (K.told out.old) (K.told out.new) result }
     ensures same { (n : List ℕ) → F.told files.new n ≡ F.told files.old n }
     ensures reads { F.faults files.old ≤ F.faults files.new }
@@ -74,17 +80,23 @@ fn answer_call<F: Files, K: Sink>(
 {
     let refusal = match prepare(alloc, words, files) {
         Err(refusal) => refusal,
-        Ok(ready) => match Machine::open(alloc, &ready.image, 16, 1, ready.count) {
-            Err(_) => Refusal::Memory,
-            Ok(machine) => return run_ready(machine, &ready, out, bench),
+        Ok(ready) => match open_machine(alloc, &ready, &mut bench.devices) {
+            Err(refusal) => refusal,
+            Ok(machine) => {
+                let mut machine = machine;
+                let status = run_ready(&mut machine, &ready, out);
+                bench.machine = Some(machine);
+                return status;
+            }
         },
     };
     refuse(refusal, out)
 }
 
-/// Does what the words ask for: `run IMAGE SCHEDULE N` runs the image for N steps by the schedule, on a
-/// machine with 16 MiB of RAM that is left in the bench, and prints its report. The words exclude the
-/// program's name. A call that is refused before it opens a machine prints one line.
+/// Does what the words ask for: `run IMAGE SCHEDULE N` runs the image for N steps by the schedule, on a machine with 16 MiB of RAM
+/// and the bench's devices, which is left in the bench, and prints its report; with `--trace` behind N also its steps, writes
+/// and device accesses. The words exclude the program's name. A call that is refused before it opens a machine prints one
+/// line, and leaves the devices in the bench.
 pub fn radix_call<F: Files, K: Sink>(
     alloc: Global,
     words: &[String],
@@ -94,8 +106,10 @@ pub fn radix_call<F: Files, K: Sink>(
 ) -> Status
     requires { bench.old.machine ≡ None }
 
-    // What it answers and why, what it prints, and the machine that it leaves with its lawful journal.
-    ensures answer { Says (met (F.told files.old) (F.faults files.old) (F.faults files.new) (F.last files.new)) words.now bench.new.machine
+    // What it answers and why, what it prints, and what it leaves in the bench: the machine with its lawful journal, whose
+    // device rows are what the devices answered, or all devices.
+    ensures answer { Says (met (F.told files.old) (F.faults files.old) (F.faults files.new) (F.last files.new)) words.now
+        (handed ⟦<Box<dyn Device> as Device>⟧.window_size ⟦<Box<dyn Device> as Device>⟧.list ⟦<Box<dyn Device> as Device>⟧.answers bench.old.devices.items) (leaves bench.new.machine bench.new.devices.items)
         (K.faults out.old) (K.faults out.new) (K.told out.old) (K.told out.new) result }
 
     // The outside is only read and written.
@@ -103,9 +117,9 @@ pub fn radix_call<F: Files, K: Sink>(
     ensures reads { F.faults files.old ≤ F.faults files.new }
     ensures writes { K.faults out.old ≤ K.faults out.new }
 
-    // A run whose files are known and good is done or stops, unless memory or the outside fails; and the outside
-    // is never said to fail where its count stays 0.
-    ensures complete { AcceptsRun (F.told files.old) words.now → EndsWell result }
+    // A run whose files are known and good, and whose devices can be plugged, makes all its steps, or stops, or fills its journal,
+    // unless memory or the outside fails; and the outside is never said to fail where its count stays 0.
+    ensures complete { AcceptsRun (F.told files.old) words.now (windows_in (handed ⟦<Box<dyn Device> as Device>⟧.window_size ⟦<Box<dyn Device> as Device>⟧.list ⟦<Box<dyn Device> as Device>⟧.answers bench.old.devices.items)) → EndsWell result }
     ensures sure_files { F.faults files.new ≡ 0 → NoReadFault result }
     ensures sure_sink { K.faults out.new ≡ 0 → NoWriteFault result }
 {

@@ -1,19 +1,26 @@
 //! The words of a command.
 
-ghost use Rattle.std.specs.Prelude.{◌≡◌, IfOk};
-ghost use Rattle.radix_top.specs.Words.{command_of, options, IsWellNamed};
+ghost use Rattle.std.specs.Prelude.{◌≡◌, ◌+◌, ◌<◌, ◌^◌, length, IfOk};
+ghost use Rattle.radix_top.specs.Words.{command_of, no_options, options_of, with_option, IsWellNamed};
 
 use number_text::read_number;
 
 /// The most steps of a run.
 const MOST_STEPS: u64 = 1_048_576;
 
+/// What a run shows besides its threads and its consoles.
+#[derive(Clone, Copy, Debug, PartialEq, Eq)]
+pub struct Options {
+    /// `--trace`: its steps, writes and device accesses.
+    pub trace: bool,
+}
+
 /// What the words ask for.
 #[derive(Clone, Copy, Debug, PartialEq, Eq)]
 pub enum Command {
-    /// `run IMAGE SCHEDULE N`: runs the image that word 1 names for `count` steps by the schedule that word
+    /// `run IMAGE SCHEDULE N OPTIONS`: runs the image that word 1 names for `count` steps by the schedule that word
     /// 2 names.
-    Run { count: u32 },
+    Run { count: u32, options: Options },
 }
 
 /// What the words ask for, or the number of the first wrong or missing one, from 0.
@@ -32,28 +39,41 @@ pub fn read_command(words: &[String]) -> Result<Command, usize>
                 [_] => Err(2),
                 [_, _] => Err(3),
                 [_, _, count, more @ ..] => {
-                    match read_number(count.as_bytes(), MOST_STEPS) {
-                        None => Err(3),
-                        Some(count) => read_options(
-                            Command::Run {
-                                count: count as u32,
-                            },
-                            more,
-                        ),
-                    }
+                    let Some(count) = read_number(count.as_bytes(), MOST_STEPS) else {
+                        return Err(3);
+                    };
+                    let options = read_options(4, Options { trace: false }, more)?;
+                    Ok(Command::Run {
+                        count: count as u32,
+                        options,
+                    })
                 }
             }
         }
     }
 }
 
-/// The command with the options after its positional words, the first of which has number 4. There are none, so
-/// a further word is wrong.
-fn read_options(command: Command, words: &[String]) -> Result<Command, usize>
-    ensures { result ≡ options 4 command words.now }
+/// The options that words are, the first of which has the number `place`, behind those that were there before.
+fn read_options(place: usize, before: Options, words: &[String]) -> Result<Options, usize>
+    requires { place + length words.now < 2 ^ 63 }
+    ensures { result ≡ options_of place before words.now }
 {
     match words {
-        [] => Ok(command),
-        [_, ..] => Err(4),
+        [] => Ok(before),
+        [word, rest @ ..] => match add_option(before, word) {
+            None => Err(place),
+            Some(options) => read_options(place + 1, options, rest),
+        },
+    }
+}
+
+/// The options with that of one more word, or `None` where it is no option, or was there before.
+fn add_option(options: Options, word: &String) -> Option<Options>
+    ensures { result ≡ with_option options word.now }
+{
+    if word.as_str() == "--trace" && !options.trace {
+        Some(Options { trace: true })
+    } else {
+        None
     }
 }

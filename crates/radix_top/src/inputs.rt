@@ -3,14 +3,14 @@
 ghost use Rattle.std.specs.Prelude.{◌≡◌, ◌≤◌, ◌<◌, ℕ, List, IfOk, IfErr, IfSome, Ok, length};
 ghost use Rattle.elf_image.specs.IsImage.{IsImage};
 ghost use Rattle.sched_text.specs.Reading.{plan_of};
-ghost use Rattle.ppc_machine.specs.Machines.{IsOneWithin};
+ghost use Rattle.ppc_bus.specs.Windows.{Window};
 ghost use Rattle.radix_top.specs.declared.command.Command.TheVariants.{Run};
 ghost use Rattle.radix_top.specs.Words.{word_at, command_of};
 ghost use Rattle.radix_top.specs.Inputs.{met, most, image_word, schedule_word, WasReadAs, FileFails};
 ghost use Rattle.radix_top.specs.Reading.{ReadFails};
 ghost use Rattle.radix_top.specs.Causes.{HasCause};
 
-use crate::command::{Command, read_command};
+use crate::command::{Command, Options, read_command};
 use crate::status::Refusal;
 use elf_image::{ElfFault, Image, read_elf};
 use outer_io::{FileFault, Files};
@@ -25,6 +25,8 @@ const MOST_BYTES: usize = 64 << 20;
 pub struct RunInputs {
     /// How many steps are asked for.
     pub count: u32,
+    /// What is to be shown.
+    pub options: Options,
     /// The image.
     pub image: Image,
     /// The schedule.
@@ -59,14 +61,13 @@ fn read_image<F: Files>(alloc: Global, words: &[String], files: &mut F) -> Resul
     ensures same { (n : List ℕ) → F.told files.new n ≡ F.told files.old n }
     ensures counts { F.faults files.old ≤ F.faults files.new }
     ensures ok { IfOk result (λ i. WasReadAs (met (F.told files.old) (F.faults files.old) (F.faults files.new) (F.last files.new)) (word_at words.now 1) (λ bytes. IsImage bytes i)) }
-    ensures one { IfOk result (λ i. IsOneWithin i 16) }
     ensures err { IfErr result (FileFails (met (F.told files.old) (F.faults files.old) (F.faults files.new) (F.last files.new)) (image_word words.now)) }
 {
     let bytes = read_word(alloc, words, 1, files)?;
     match read_elf(alloc, &bytes) {
         Ok(image) => Ok(image),
-        Err(ElfFault::Form) => Err(Refusal::BadImage(ElfFault::Form)),
         Err(ElfFault::Memory) => Err(Refusal::Memory),
+        Err(fault) => Err(Refusal::BadImage(fault)),
     }
 }
 
@@ -95,22 +96,22 @@ pub fn prepare<F: Files>(
 ) -> Result<RunInputs, Refusal>
     ensures same { (n : List ℕ) → F.told files.new n ≡ F.told files.old n }
     ensures counts { F.faults files.old ≤ F.faults files.new }
-    ensures command { IfOk result (λ r. command_of words.now ≡ Ok (Run r.count)) }
+    ensures command { IfOk result (λ r. command_of words.now ≡ Ok (Run r.count r.options)) }
     ensures few { IfOk result (λ r. r.count ≤ 1048576) }
     ensures image { IfOk result (λ r. IfSome (F.told files.old (word_at words.now 1)) (λ bytes. (length bytes ≤ most) × IsImage bytes r.image)) }
-    ensures within { IfOk result (λ r. IsOneWithin r.image 16) }
     ensures schedule { IfOk result (λ r. WasReadAs (met (F.told files.old) (F.faults files.old) (F.faults files.new) (F.last files.new)) (word_at words.now 2) (λ bytes. plan_of bytes ≡ Ok r.schedule)) }
     ensures one { IfOk result (λ r. r.schedule.threads ≡ 1) }
-    ensures err { IfErr result (HasCause (met (F.told files.old) (F.faults files.old) (F.faults files.new) (F.last files.new)) words.now) }
+    ensures err { IfErr result (λ r. (windows : List Window) → HasCause (met (F.told files.old) (F.faults files.old) (F.faults files.new) (F.last files.new)) words.now windows r) }
 {
-    let count = match read_command(words) {
-        Ok(Command::Run { count }) => count,
+    let (count, options) = match read_command(words) {
+        Ok(Command::Run { count, options }) => (count, options),
         Err(place) => return Err(Refusal::Usage(place)),
     };
     let image = read_image(alloc, words, files)?;
     let schedule = read_plan(alloc, words, files)?;
     Ok(RunInputs {
         count,
+        options,
         image,
         schedule,
     })

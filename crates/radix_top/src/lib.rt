@@ -6,10 +6,11 @@ mod command;
 mod console_law;
 mod fault_lines;
 mod inputs;
+mod opening;
 mod status;
 
 pub use call::{Bench, radix_call};
-pub use command::{Command, read_command};
+pub use command::{Command, Options, read_command};
 pub use console_law::consoles_show_their_stores;
 pub use fault_lines::fault_line;
 pub use status::{Refusal, Status, refused_status};

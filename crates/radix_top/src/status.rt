@@ -3,8 +3,9 @@
 ghost use Rattle.std.specs.Prelude.{◌≡◌};
 ghost use Rattle.radix_top.specs.Statuses.{refused_status, ended_status};
 
-use elf_image::ElfFault;
+use elf_image::{ElfFault, Span};
 use journal_core::{Ended, RowKind, StopName};
+use ppc_bus::PlugReason;
 
 /// How a call ends.
 #[derive(Clone, Copy, Debug, PartialEq, Eq)]
@@ -21,6 +22,11 @@ pub enum Status {
     BadImage(ElfFault),
     /// The file is not a schedule, from this byte on.
     BadSchedule(usize),
+    /// The first range of addresses that the image takes and has no place for, and RAM where it leaves that, else the earlier
+    /// range that it meets.
+    BadPlace(Span, Span),
+    /// The device with this number, from 0, cannot be plugged, for this reason.
+    BadDevice(usize, PlugReason),
     /// The outside failed to take what was printed.
     WriteFault,
     /// Memory ran out before a machine was opened.
@@ -44,6 +50,11 @@ pub enum Refusal {
     BadImage(ElfFault),
     /// The file is not a schedule, from this byte on.
     BadSchedule(usize),
+    /// The first range of addresses that the image takes and has no place for, and RAM where it leaves that, else the earlier
+    /// range that it meets.
+    BadPlace(Span, Span),
+    /// The device with this number, from 0, cannot be plugged, for this reason.
+    BadDevice(usize, PlugReason),
     /// Memory ran out.
     Memory,
 }
@@ -58,6 +69,8 @@ pub fn refused_status(refusal: Refusal) -> Status
         Refusal::TooLong(place) => Status::TooLong(place),
         Refusal::BadImage(fault) => Status::BadImage(fault),
         Refusal::BadSchedule(place) => Status::BadSchedule(place),
+        Refusal::BadPlace(range, other) => Status::BadPlace(range, other),
+        Refusal::BadDevice(number, reason) => Status::BadDevice(number, reason),
         Refusal::Memory => Status::Memory,
     }
 }

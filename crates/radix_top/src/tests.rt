@@ -7,3 +7,4 @@ mod forms;
 mod runs;
 mod support;
 mod system_forms;
+mod traces;

@@ -4,8 +4,9 @@ use crate::information::HELP;
 use crate::last_step::LastStep;
 use crate::message::{Message, Story};
 use crate::usage::WrongWord;
-use elf_image::ElfFault;
+use elf_image::{ElfFault, Span};
 use journal_core::{RowKind, StopName};
+use ppc_bus::PlugReason;
 use radix_top::Status;
 use std::alloc::{AllocError, Global};
 use std::env::{Env, FillError};
@@ -91,12 +92,33 @@ fn messages_name_the_file_and_what_is_wrong(rt: HostRuntime) -> Result<(), Fail>
         ),
         (Status::TooLong(2), "radix: 'b': longer than 64 MiB\n"),
         (
-            Status::BadImage(ElfFault::Form),
-            "radix: 'a\\u{1b}\\n\\'': not an image that this version reads (docs/FORMATS.md, \"The image\")\n",
+            Status::BadImage(ElfFault::Class),
+            "radix: 'a\\u{1b}\\n\\'': not an ELF file of 64 bits (docs/FORMATS.md, \"The image\")\n",
+        ),
+        (
+            Status::BadImage(ElfFault::Overlap(0, 2)),
+            "radix: 'a\\u{1b}\\n\\'': the segments of headers 0 and 2 have a common address (docs/FORMATS.md, \"The image\")\n",
         ),
         (
             Status::BadSchedule(0),
             "radix: 'b': not a schedule that this version reads, from byte 0 on (docs/FORMATS.md, \"The schedule\")\n",
+        ),
+        (
+            Status::BadPlace(
+                Span {
+                    from: 0xff_fffc,
+                    to: 0x100_0004,
+                },
+                Span {
+                    from: 0,
+                    to: 0x100_0000,
+                },
+            ),
+            "radix: 'a\\u{1b}\\n\\'': addresses fffffc to 1000004 have no place in RAM, or beside 0 to 1000000 (docs/FORMATS.md, \"The image\")\n",
+        ),
+        (
+            Status::BadDevice(1, PlugReason::SlotUsed(0)),
+            "radix: device 1 cannot be plugged: its window meets that of slot 0\n",
         ),
         (Status::Memory, "radix: out of memory\n"),
         (Status::WriteFault, ""),

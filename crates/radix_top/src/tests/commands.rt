@@ -1,7 +1,7 @@
 //! Command lines and the places of their faults.
 
 use super::support::words;
-use crate::{Command, read_command};
+use crate::{Command, Options, read_command};
 use std::alloc::{AllocError, Global};
 use std::test::Fail;
 
@@ -19,15 +19,22 @@ fn place(alloc: Global, list: &[&str]) -> Result<Option<usize>, AllocError> {
 }
 
 #[test]
-fn a_run_has_its_count(rt: HostRuntime) -> Result<(), Fail> {
-    let list = words(rt.alloc(), &["run", "a", "b", "1048576"])?;
-    assert_eq!(rt; read_command(&list), Ok(Command::Run { count: 1_048_576 }));
+fn a_run_has_its_count_and_its_options(rt: HostRuntime) -> Result<(), Fail> {
+    let lines: [(&[&str], u32, bool); 2] = [
+        (&["run", "a", "b", "1048576"], 1_048_576, false),
+        (&["run", "a", "b", "0", "--trace"], 0, true),
+    ];
+    for (line, count, trace) in lines {
+        let list = words(rt.alloc(), line)?;
+        let options = Options { trace };
+        assert_eq!(rt; read_command(&list), Ok(Command::Run { count, options }));
+    }
     Ok(())
 }
 
 #[test]
 fn wrong_and_missing_words_have_their_numbers(rt: HostRuntime) -> Result<(), Fail> {
-    let lines: [(&[&str], usize); 24] = [
+    let lines: [(&[&str], usize); 28] = [
         (&[], 0),
         (&[""], 0),
         (&["Run"], 0),
@@ -52,6 +59,10 @@ fn wrong_and_missing_words_have_their_numbers(rt: HostRuntime) -> Result<(), Fai
         (&["run", "a", "b", "1", "2"], 4),
         (&["run", "a", "b", "1", ""], 4),
         (&["run", "a", "b", "1", "a", "b"], 4),
+        (&["run", "a", "b", "3", "--trace", "--trace"], 5),
+        (&["run", "a", "b", "3", "--trac"], 4),
+        (&["run", "a", "b", "--trace", "3"], 3),
+        (&["run", "a", "b", "3", "--trace", "--walks"], 5),
     ];
     for (list, wrong) in lines {
         assert_eq!(rt; place(rt.alloc(), list)?, Some(wrong));
@@ -91,9 +102,9 @@ fn counts_have_no_sign_no_leading_zero_and_a_bound(rt: HostRuntime) -> Result<()
 }
 
 #[test]
-fn a_word_after_n_is_refused(rt: HostRuntime) -> Result<(), Fail> {
-    let options: [&str; 8] = [
-        "--trace", "--walks", "--guest", "--ram", "--help", "-h", "16", "g@20000",
+fn a_word_after_n_that_is_no_option_is_refused(rt: HostRuntime) -> Result<(), Fail> {
+    let options: [&str; 7] = [
+        "--walks", "--guest", "--ram", "--help", "-h", "16", "g@20000",
     ];
     for option in options {
         assert_eq!(rt;

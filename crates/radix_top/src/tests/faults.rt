@@ -1,7 +1,7 @@
 //! Faults of the outside.
 
 use super::runs::REPORT;
-use super::support::{FIRST, ONE_THREAD, call, image, words};
+use super::support::{FIRST, ONE_THREAD, bench, call, image, words};
 use crate::{Bench, Status, radix_call};
 use journal_core::Ended;
 use outer_io::{MemFiles, MemSink, SureFiles, SureSink};
@@ -32,6 +32,7 @@ fn a_failing_read_is_told_by_its_word(rt: HostRuntime) -> Result<(), Fail> {
         let left = call(rt.alloc(), &RUN, &mut files, &mut out)?;
         assert_eq!(rt; left.status, status);
         assert_eq!(rt; left.steps, None);
+        assert_eq!(rt; left.devices, 3);
         assert_eq!(rt; left.text.as_slice(), line.as_bytes());
     }
     Ok(())
@@ -60,17 +61,16 @@ fn a_file_above_64_mib_is_too_long(rt: HostRuntime) -> Result<(), Fail> {
 
 #[test]
 fn a_failing_put_leaves_a_front_and_the_whole_run(rt: HostRuntime) -> Result<(), Fail> {
-    for number in 1..26u32 {
-        for added in [0usize, 1] {
-            let mut files = first_files(rt.alloc())?;
-            let mut out = MemSink::open(rt.alloc(), 8192)?;
-            out.fail_call(number, added)?;
-            let left = call(rt.alloc(), &RUN, &mut files, &mut out)?;
-            assert_eq!(rt; left.status, Status::WriteFault);
-            assert_eq!(rt; left.steps, Some(3));
-            assert!(rt; left.text.len() < REPORT.len());
-            assert!(rt; REPORT.as_bytes().starts_with(left.text.as_slice()));
-        }
+    for (number, added) in [(1u32, 0usize), (2, 0), (2, 1), (13, 1), (25, 0), (25, 1)] {
+        let mut files = first_files(rt.alloc())?;
+        let mut out = MemSink::open(rt.alloc(), 8192)?;
+        out.fail_call(number, added)?;
+        let left = call(rt.alloc(), &RUN, &mut files, &mut out)?;
+        assert_eq!(rt; left.status, Status::WriteFault);
+        assert_eq!(rt; left.steps, Some(3));
+        assert_eq!(rt; left.devices, 0);
+        assert!(rt; left.text.len() < REPORT.len());
+        assert!(rt; REPORT.as_bytes().starts_with(left.text.as_slice()));
     }
     Ok(())
 }
@@ -95,7 +95,10 @@ fn a_sure_outside_has_no_fault(rt: HostRuntime) -> Result<(), Fail> {
     files.add("b", ONE_THREAD)?;
     let list = words(rt.alloc(), &RUN)?;
     let mut out = SureSink::new();
-    let mut bench = Bench { machine: None };
+    let mut bench = Bench {
+        devices: bench(rt.alloc())?.devices,
+        machine: None,
+    };
     let status = radix_call(rt.alloc(), &list, &mut files, &mut out, &mut bench);
     assert_eq!(rt; status, Status::Done(Ended::AllRun));
     assert_eq!(rt; out.count(), REPORT.len() as u64);

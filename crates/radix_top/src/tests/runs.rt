@@ -101,7 +101,6 @@ fn a_word_that_is_no_form_or_is_not_executed_stops_by_name(rt: HostRuntime) -> R
     let alloc = rt.alloc();
     stops_at(&rt, alloc, 0x8463_0000, StopName::InvalidForm)?;
     stops_at(&rt, alloc, 0x4e00_0420, StopName::InvalidForm)?;
-    stops_at(&rt, alloc, 0x8083_0000, StopName::Unsupported)?;
     stops_at(&rt, alloc, 0x7c00_046c, StopName::Unsupported)
 }
 

@@ -1,9 +1,12 @@
 //! Images, schedules and calls for the tests.
 
-ghost use Rattle.std.specs.Prelude.{◌<◌, length};
+ghost use Rattle.std.specs.Prelude.{◌≡◌, ◌<◌, None, length};
 
 use crate::{Bench, Status, radix_call};
+use bench_devices::{Console, Control, Tape};
 use outer_io::{MemFiles, MemSink};
+use ppc_bus::Device;
+use ppc_machine::Plugged;
 use std::alloc::{AllocError, Global};
 
 /// The schedule of one thread.
@@ -43,6 +46,8 @@ pub struct Outcome {
     pub text: Vec<u8>,
     /// How many step rows its machine has, where it opened one.
     pub steps: Option<u32>,
+    /// How many devices are in the bench.
+    pub devices: usize,
 }
 
 /// The words of a command line.
@@ -54,15 +59,47 @@ pub fn words(alloc: Global, list: &[&str]) -> Result<Vec<String>, AllocError> {
     Ok(words)
 }
 
-/// Calls over these files and this sink.
-pub fn call(
+/// A bench with consoles at these places.
+pub fn consoles(alloc: Global, places: &[u64]) -> Result<Bench, AllocError> {
+    let mut devices = Vec::new(alloc);
+    for at in places {
+        let device: Box<dyn Device> = Box::new(alloc, Console::new())?;
+        devices.push(Plugged { at: *at, device })?;
+    }
+    Ok(Bench {
+        devices,
+        machine: None,
+    })
+}
+
+/// A bench with the program's devices: a console at 10000000, a control at 10001000 and an empty tape at 10002000.
+pub fn bench(alloc: Global) -> Result<Bench, AllocError> {
+    let mut bench = consoles(alloc, &[0x1000_0000])?;
+    let device: Box<dyn Device> = Box::new(alloc, Control::new())?;
+    bench.devices.push(Plugged {
+        at: 0x1000_1000,
+        device,
+    })?;
+    let device: Box<dyn Device> = Box::new(alloc, Tape::new(Vec::new(alloc)))?;
+    bench.devices.push(Plugged {
+        at: 0x1000_2000,
+        device,
+    })?;
+    Ok(bench)
+}
+
+/// Calls over these files, this sink and these devices.
+pub fn call_with(
     alloc: Global,
     list: &[&str],
     files: &mut MemFiles,
     out: &mut MemSink,
-) -> Result<Outcome, AllocError> {
+    bench: Bench,
+) -> Result<Outcome, AllocError>
+    requires { bench.machine ≡ None }
+{
     let words = words(alloc, list)?;
-    let mut bench = Bench { machine: None };
+    let mut bench = bench;
     let status = radix_call(alloc, &words, files, out, &mut bench);
     let steps = match &bench.machine {
         Some(machine) => Some(machine.journal().counts().steps),
@@ -72,10 +109,25 @@ pub fn call(
         status,
         text: Vec::from_slice(alloc, out.bytes())?,
         steps,
+        devices: bench.devices.len(),
     })
 }
 
-/// Runs `run a b COUNT` over these files, with a sink that has ample room.
+/// Calls over these files and this sink, with the program's devices.
+pub fn call(
+    alloc: Global,
+    list: &[&str],
+    files: &mut MemFiles,
+    out: &mut MemSink,
+) -> Result<Outcome, AllocError> {
+    let bench = Bench {
+        devices: bench(alloc)?.devices,
+        machine: None,
+    };
+    call_with(alloc, list, files, out, bench)
+}
+
+/// Runs `run a b COUNT` over these files, with the program's devices and a sink that has ample room.
 pub fn run(
     alloc: Global,
     image: &[u8],
@@ -87,4 +139,20 @@ pub fn run(
     files.add("b", schedule)?;
     let mut out = MemSink::open(alloc, 8192)?;
     call(alloc, &["run", "a", "b", count], &mut files, &mut out)
+}
+
+/// Runs `run a b COUNT --trace` on an image of these words at 10000, with the program's devices.
+pub fn traced(alloc: Global, list: &[u32], count: &str) -> Result<Outcome, AllocError>
+    requires { length list.now < 100 }
+{
+    let mut files = MemFiles::new(alloc);
+    files.add("a", &image(alloc, 0x1_0000, 0x1_0000, list)?)?;
+    files.add("b", ONE_THREAD)?;
+    let mut out = MemSink::open(alloc, 8192)?;
+    call(
+        alloc,
+        &["run", "a", "b", count, "--trace"],
+        &mut files,
+        &mut out,
+    )
 }

@@ -8,7 +8,7 @@ pub returns-in_err-image-clause-err : goal.returns-in_err-image-clause-err
 returns-in_err-image-clause-err g c =
     let p = err_from_is_err_and c.from_residual.result c.from_residual.ensures.1 in
     let words = c.args.words.now in
-    rw (p.1, p.2) (fails_cause (met (g.F.Files.told c.args.files.now) (g.F.Files.faults c.args.files.now) (g.F.Files.faults c.read_image.new.files) (g.F.Files.last c.read_image.new.files)) words (image_word words) _
+    rw (p.1, p.2) (λ windows. fails_cause (met (g.F.Files.told c.args.files.now) (g.F.Files.faults c.args.files.now) (g.F.Files.faults c.read_image.new.files) (g.F.Files.last c.read_image.new.files)) words windows (image_word words) _
     (reaches_image _ words c.in-Ok-Run.field-0 (sym c.in-Ok-Run.ensures.command)) c.in_err-image.ensures.err)
 
 pub returns-in_err-schedule-clause-err : goal.returns-in_err-schedule-clause-err
@@ -16,6 +16,6 @@ returns-in_err-schedule-clause-err g c =
     let p = err_from_is_err_and c.from_residual-in_err-schedule.result c.from_residual-in_err-schedule.ensures.1 in
     let words = c.args.words.now in
     let m = met (g.F.Files.told c.args.files.now) (g.F.Files.faults c.args.files.now) (g.F.Files.faults c.read_plan.new.files) (g.F.Files.last c.read_plan.new.files) in
-    rw (p.1, p.2) (fails_cause m words (schedule_word words) _
+    rw (p.1, p.2) (λ windows. fails_cause m words windows (schedule_word words) _
     (reaches_schedule m words c.in-Ok-Run.field-0 c.in_ok-image.image (sym c.in-Ok-Run.ensures.command) c.in_ok-image.ensures.ok.1)
     (fails_later (g.F.Files.told c.args.files.now) (g.F.Files.told c.read_image.new.files) (g.F.Files.faults c.args.files.now) (g.F.Files.faults c.read_image.new.files) (g.F.Files.faults c.read_plan.new.files) (g.F.Files.last c.read_plan.new.files) (schedule_word words) _ c.in_ok-image.ensures.same c.in_ok-image.ensures.counts c.in_err-schedule.ensures.err))
