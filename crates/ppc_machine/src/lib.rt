@@ -8,3 +8,6 @@ mod plugging;
 pub use machines::{Machine, MachineOf};
 pub use opening::{OpenFault, OpenFaultOf, OpenReason};
 pub use plugging::{Plugged, PluggedOf};
+
+#[cfg(test)]
+mod tests;
