@@ -1,1 +1,2 @@
+mod HexNumbers
 mod Numbers

@@ -20,3 +20,21 @@ fn numbers_end_at_the_greatest(rt: HostRuntime) {
     assert_eq!(rt; read_number(b"18446744073709551616", u64::MAX), None);
     assert_eq!(rt; read_number(b"99999999999999999999999999", u64::MAX), None);
 }
+
+#[test]
+fn hexadecimal_digits_have_either_case(rt: HostRuntime) {
+    assert_eq!(rt; read_hex(b"0"), Some(0));
+    assert_eq!(rt; read_hex(b"00aF"), Some(175));
+    assert_eq!(rt; read_hex(b"fFfFfFfFfFfFfFfF"), Some(u64::MAX));
+    assert_eq!(rt; read_hex(b"00000000000000001"), None);
+    assert_eq!(rt; read_hex(b""), None);
+    assert_eq!(rt; read_hex(b"g"), None);
+    assert_eq!(rt; read_hex(b"0x1"), None);
+}
+
+#[test]
+fn hexadecimal_numbers_end_at_the_greatest(rt: HostRuntime) {
+    assert_eq!(rt; read_hex_up_to(b"00000000000000001", 1), Some(1));
+    assert_eq!(rt; read_hex_up_to(b"10", 15), None);
+    assert_eq!(rt; read_hex_up_to(b"10000000000000000", u64::MAX), None);
+}

@@ -1,0 +1,12 @@
+mod ByLines
+mod FirstBytes
+mod Gaps
+mod Gathered
+mod Longest
+mod Moved
+mod NumberAt
+mod OneLine
+mod Runs
+mod Steps
+mod TokenAt
+mod WordAt
