@@ -217,7 +217,7 @@ w 2 0 000000000001fffc 4 0000000000000000 00000000ffffffff
 w 2 0 0000000000020000 4 0000000000000000 00000000ffffffff
 .$line"
 expect_usage 5 "unexpected '--trace'" run store.elf first.sched 4 --trace --trace
-expect_usage 3 "N is '--trace', and must be 0 to 1048576 in decimal" run store.elf first.sched --trace 4
+expect_usage 3 "N is '--trace', and must be 0 to 1048576 in decimal, before all options" run store.elf first.sched --trace 4
 "$top/tools/make_image.sh" 0x10000 0x10000 0x3C801000 0x98640000 0x4BFFFFFC >full.elf
 "$program" run full.elf first.sched 1048576 >out 2>err
 [ $? -eq 14 ] || fail 'exit status of a full journal' 14 other

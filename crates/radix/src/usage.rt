@@ -34,6 +34,7 @@ fn asks_for_help(words: &[String]) -> bool {
 fn rule_of_count(word: &str) -> &'static str {
     let bytes = word.as_bytes();
     match bytes {
+        [b'-', b'-', ..] => "must be 0 to 1048576 in decimal, before all options",
         [b'+' | b'-', ..] => "must be 0 to 1048576 in decimal, without a sign",
         [b'0', b'0'..=b'9', ..] => "must be 0 to 1048576 in decimal, without a leading zero",
         _ => "must be 0 to 1048576 in decimal",
