@@ -169,7 +169,15 @@ fn the_first_reason_refuses_and_hands_the_devices_back(rt: HostRuntime) -> Resul
     let guests = Guests::new(rt.alloc());
     for (threads, ram_mib, steps, at, reason) in cases {
         let devices = devices_with_tape_at(rt.alloc(), at)?;
-        let opened = Machine::open(rt.alloc(), &image, &guests, ram_mib, threads, devices, steps);
+        let opened = Machine::open(
+            rt.alloc(),
+            &image,
+            &guests,
+            ram_mib,
+            threads,
+            devices,
+            steps,
+        );
         let places = [0x1000_0000, 0x1000_1000, at];
         assert_eq!(rt; refused(opened), Some((reason, places)));
     }
