@@ -16,7 +16,7 @@ use Rattle.ppc_bus.specs.declared.slots.Slot.{Slot}
 use Rattle.sched_text.specs.Plan.{Plan, turn}
 use Rattle.ppc_machine.specs.MachineView.{MachineView}
 use Rattle.ppc_machine.specs.Machines.{StepsOn, Asks}
-use Rattle.ppc_bus.specs.Chains.{Chain, Chain-push}
+use Rattle.ppc_bus.specs.Chains.{Chain}
 use Rattle.ppc_machine.proofs.ViewLemmas.{Relation, rows_of_step}
 
 -- a run goes on only where none of its ends is met

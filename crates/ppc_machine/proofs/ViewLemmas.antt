@@ -12,8 +12,7 @@ use Rattle.journal_core.specs.Translating.{AreTrue}
 use Rattle.journal_core.proofs.PastLemmas.{ram_after-append, ram_before-more, IsBytes-ram_after}
 use Rattle.journal_core.proofs.RunsLemmas.{IsRun-push}
 use Rattle.ppc_bus.specs.declared.slots.Slot.{Slot}
-use Rattle.thread_regs.specs.Registers.{all_reset}
-use Rattle.ppc_step.specs.States.{State, state_of}
+use Rattle.ppc_step.specs.States.{State}
 use Rattle.ppc_step.specs.Rule.{KeepsRule, next_state, IsReady, IsKept as IsKeptStep}
 use Rattle.ppc_step.specs.Soundness.{IsSound}
 use Rattle.ppc_step.proofs.SoundLemmas.{reset_is_sound, runs_stay_sound}

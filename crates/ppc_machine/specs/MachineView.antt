@@ -1,5 +1,5 @@
 -- What contracts see of a machine, and what each machine keeps.
-use Rattle.std.specs.Prelude.{ℕ, ◌≡◌, ◌≤◌, List, length, Option}
+use Rattle.std.specs.Prelude.{ℕ, ◌≤◌, List, length, Option}
 use Rattle.journal_core.specs.Rows.{JournalView}
 use Rattle.journal_core.specs.Past.{ram_before, past, Fits}
 use Rattle.journal_core.specs.Translating.{AreTrue}

@@ -1,5 +1,5 @@
 -- Opening a machine: what it then is, and what is refused.
-use Rattle.std.specs.Prelude.{◌≡◌, ℕ, ◌==◌, ◌&&◌, not, nat_le, if◌then◌else◌, Bool, List, [], Option, Some, None}
+use Rattle.std.specs.Prelude.{◌≡◌, ℕ, ◌==◌, ◌&&◌, nat_le, if◌then◌else◌, Bool, List, [], Option, Some, None}
 use Rattle.journal_core.specs.Rows.{no_rows}
 use Rattle.ppc_bus.specs.declared.faults.PlugReason.{PlugReason}
 use Rattle.ppc_bus.specs.Windows.{Window}

@@ -1,7 +1,6 @@
-use Rattle.std.proofs.Common.{◌≡◌, ◌*◌, ◌+◌, ◌<◌, ◌≤◌, length, take, get_or, refl, sym, ap, ◌∙◌, arith}
+use Rattle.std.proofs.Common.{◌≡◌, ◌+◌, ◌<◌, ◌≤◌, length, get_or, refl, sym, ap, ◌∙◌, arith}
 use Rattle.journal_core.specs.Bytes.{placed}
 use Rattle.elf_image.specs.Laws.{LieInRam}
-use Rattle.elf_image.specs.Start as starts
 use Rattle.elf_image.proofs.RamLemmas.{lie_in_ram, guest_fits}
 use Rattle.elf_image.proofs.StartLemmas.{with_guests_more, all_with_guests, length-placed_within}
 use Rattle.ppc_machine.proofs.OpenLemmas.{from_ok}

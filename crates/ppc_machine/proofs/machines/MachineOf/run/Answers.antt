@@ -7,7 +7,7 @@ use Rattle.journal_core.specs.Ends.{ended_of}
 use Rattle.sched_text.specs.Plan.{turn}
 use Rattle.ppc_bus.specs.Answers.{DeviceAnswers}
 use Rattle.ppc_machine.specs.Inside.{held_of}
-use Rattle.ppc_machine.specs.MachineView.{MachineView, IsLawful}
+use Rattle.ppc_machine.specs.MachineView.{MachineView}
 use Rattle.ppc_machine.specs.Machines.{StepsOn}
 use Rattle.ppc_machine.proofs.ViewLemmas.{IsKept-step, start_of-step}
 use Rattle.ppc_machine.proofs.RunLemmas.{GoesOn, GoesOn-none, Goes-none, Goes-step, Grows-step, length-rows, Asks-none, Asks-step}

@@ -1,7 +1,6 @@
 use Rattle.std.proofs.Common.{sym, ◌∙◌, refl}
 use Rattle.ppc_bus.specs.Answers.{DeviceAnswers}
 use Rattle.ppc_machine.specs.Inside.{held_of}
-use Rattle.ppc_machine.specs.Machines.{StepsOn}
 use Rattle.ppc_machine.proofs.ViewLemmas.{IsKept-step, start_of-step}
 use Rattle.ppc_machine.proofs.machines.MachineOf.step.Goals as goal
 
