@@ -1,6 +1,7 @@
 -- What follows from what a call says.
-use Rattle.std.proofs.Common.{◌≡◌, ℕ, ◌<◌, ◌≤◌, nat_le, Bool, true, false, List, length, Option, Some, None, Ok, Err, refl, arith, inl, inr, subst}
+use Rattle.std.proofs.Common.{◌≡◌, ℕ, ◌<◌, ◌≤◌, nat_lt, nat_le, Bool, true, false, List, [], length, Option, Some, None, Ok, Err, refl, arith, inl, inr, subst}
 use Rattle.std.specs.Prelude.{IfSome, ◌⊎◌}
+use Rattle.std.proofs.lemmas.Bool.Decides.{nat_tests}
 use Rattle.outer_io.specs.Outside.{Asked, CountRose}
 use Rattle.journal_core.specs.Room.{room_of}
 use Rattle.journal_core.specs.Ends.{stop_of, end_by, ended_of}
@@ -15,7 +16,10 @@ use Rattle.elf_image.proofs.OneImage.{one_image, image_or_fault}
 use Rattle.sched_text.specs.Plan.{turn}
 use Rattle.sched_text.specs.Reading.{plan_of, one_thread}
 use Rattle.sched_text.proofs.OneThread.{turn-one_thread, plan_of-one_thread}
-use Rattle.ppc_machine.specs.MachineView.{MachineView}
+use Rattle.ppc_machine.specs.MachineView.{MachineView, now_of}
+use Rattle.ppc_machine.specs.Opening.{start}
+use Rattle.step_laws.specs.Rows.{surely}
+use Rattle.step_laws.proofs.RowsLemmas.{short_runs}
 use Rattle.radix_top.specs.declared.command.Command.{Command}
 use Rattle.radix_top.specs.declared.command.Command.TheVariants.{Run}
 use Rattle.radix_top.specs.declared.status.Refusal.{Refusal}
@@ -25,7 +29,7 @@ use Rattle.radix_top.specs.declared.status.Status.TheVariants as statuses
 use Rattle.radix_top.specs.Words.{Text, word_at}
 use Rattle.radix_top.specs.Inputs.{FilesSeen, met, most, ImageFile, ScheduleFile, FileWord, image_word, schedule_word, files_of, ReachesIn, FileFails, AsksFor}
 use Rattle.radix_top.specs.Devices.{DevicesSeen, windows_in}
-use Rattle.radix_top.specs.Causes.{FailsAtPlace, FailsAtDevice}
+use Rattle.radix_top.specs.Causes.{ram_mib, FailsAtPlace, FailsAtDevice}
 use Rattle.radix_top.specs.Calls.{BenchSeen, IsRunOf, Says}
 use Rattle.radix_top.specs.Laws.{AcceptsRun, EndsWell, NoReadFault, NoWriteFault}
 
@@ -110,14 +114,46 @@ is_plugged m words windows a number reason fails =
     let none = a.plugged in
     cc
 
+-- where a run fills its journal, its last step is no stop, it lacks steps, and a list is short
+full_by : (stop : Option (StopName × ℕ)) (all : Bool) (next : Option ℕ) (full : Option (RowKind × ℕ)) (k : RowKind) (c : ℕ) → end_by stop all next full ≡ Some (ends.JournalFull k c) → (all ≡ false) × (full ≡ None → ⊥)
+full_by (Some stop) all next full k c is = cc
+full_by None true next full k c is = cc
+full_by None false None full k c is = cc
+full_by None false (Some t) None k c is = cc
+full_by None false (Some t) (Some full) k c is = (refl, λ none. cc)
+
+same_count : (m : FilesSeen) (words : List Text) (windows : List Window) (asks : AsksFor m words) (a : AcceptsRun m.told words windows) → asks.count ≡ a.count
+same_count m words windows asks a = let one = a.is_command in let other = asks.is_command in cc
+
+above : (a b : ℕ) → nat_lt a b ≡ true → a < b
+above a b is = grind (arith, nat_tests)
+
+not_above : (a b : ℕ) → nat_lt a b ≡ false → b ≤ a
+not_above a b is = grind (arith, nat_tests)
+
+below : (a b : ℕ) → nat_le a b ≡ false → b < a
+below a b is = grind (arith, nat_tests)
+
+-- a run fills its journal with more steps alone than surely have room
+ever_full : {D : Type 0} (m : FilesSeen) (words : List Text) (d : DevicesSeen D) (machine : MachineView D) (k : RowKind) (c : ℕ) (a : AcceptsRun m.told words (windows_in d)) → IsRunOf m words d machine (ends.JournalFull k c) → surely < a.count
+unfolding ended_of
+ever_full m words d machine k c a run = by (nat_lt surely a.count) refl
+  where
+    by : (b : Bool) → nat_lt surely a.count ≡ b → surely < a.count
+    by true is = above surely a.count is
+    by false is =
+        let full = full_by (stop_of machine.journal.rows.steps) (nat_le run.asks.count (length machine.journal.rows.steps)) (turn run.asks.plan (length machine.journal.rows.steps)) (room_of run.asks.count machine.journal.rows) k c run.ends.ended in
+        let short : run.asks.count ≤ surely = omega (arith, not_above surely a.count is, same_count m words (windows_in d) run.asks a) in
+        absurd (full.1 (short_runs (start run.asks.image [] ram_mib 1 (windows_in d)) machine.journal.rows (now_of machine) run.asks.count run.lawful.lawful short (below run.asks.count (length machine.journal.rows.steps) full.0)))
+
 -- an accepted run is done, or stops, or fills its journal, or memory or the outside fails
-pub accepted : {D : Type 0} (told : List ℕ → Option (List ℕ)) (b e : ℕ) (last : Option Asked) (words : List Text) (d : DevicesSeen D) (left : BenchSeen D) (f f' : ℕ) (old new : Option (List ℕ)) (s : Status) → AcceptsRun told words (windows_in d) → Says (met told b e last) words d left f f' old new s → EndsWell s
+pub accepted : {D : Type 0} (told : List ℕ → Option (List ℕ)) (b e : ℕ) (last : Option Asked) (words : List Text) (d : DevicesSeen D) (left : BenchSeen D) (f f' : ℕ) (old new : Option (List ℕ)) (s : Status) → (a : AcceptsRun told words (windows_in d)) → Says (met told b e last) words d left f f' old new s → EndsWell a.count s
 accepted told b e last words d left f f' old new (statuses.Done ends.AllRun) a says = tt
 accepted told b e last words d left f f' old new (statuses.Done ends.ScheduleEnd) a says = never_ended (met told b e last) words d says.was_run.machine a.schedule_bytes a.schedule_told says.was_run.run
 accepted told b e last words d left f f' old new (statuses.Done (ends.Stopped n v)) a says = says
 accepted told b e last words d left f f' old new (statuses.Done (ends.JournalFull k c)) a says = says
 accepted told b e last words d left f f' old new (statuses.Stopped n v) a says = tt
-accepted told b e last words d left f f' old new (statuses.JournalFull k c) a says = tt
+accepted told b e last words d left f f' old new (statuses.JournalFull k c) a says = ever_full (met told b e last) words d says.was_run.machine k c a says.was_run.run
 accepted told b e last words d left f f' old new statuses.Memory a says = tt
 accepted told b e last words d left f f' old new (statuses.ReadFault p) a says = tt
 accepted told b e last words d left f f' old new statuses.WriteFault a says = tt

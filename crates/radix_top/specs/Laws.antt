@@ -1,5 +1,5 @@
 -- What follows of calls whose files are good, and of an outside that never fails.
-use Rattle.std.specs.Prelude.{◌≡◌, ◌≤◌, ℕ, List, [], length, Option, Some, None, Ok}
+use Rattle.std.specs.Prelude.{◌≡◌, ◌<◌, ◌≤◌, ℕ, List, [], length, Option, Some, None, Ok}
 use Rattle.journal_core.specs.declared.rows.Ended.TheVariants as ends
 use Rattle.ppc_bus.specs.Windows.{Window}
 use Rattle.elf_image.specs.declared.image.Image.{Image}
@@ -7,6 +7,7 @@ use Rattle.elf_image.specs.IsImage.{IsImage}
 use Rattle.elf_image.specs.Places.{bad_place_of}
 use Rattle.sched_text.specs.Plan.{Plan}
 use Rattle.sched_text.specs.Reading.{plan_of}
+use Rattle.step_laws.specs.Rows.{surely}
 use Rattle.ppc_machine.specs.Plugging.{first_refused}
 use Rattle.radix_top.specs.declared.command.Command.TheVariants.{Run}
 use Rattle.radix_top.specs.declared.command.Options.{Options}
@@ -35,23 +36,24 @@ pub record AcceptsRun (told : List ℕ → Option (List ℕ)) (words : List Text
   pub is_schedule : plan_of schedule_bytes ≡ Ok plan
   pub plugged : first_refused 0 [] windows ≡ None
 
--- the run made all its steps, or the machine stopped, or its journal had no room for a step, or memory or the outside failed
-abbrev pub EndsWell : Status → Type 0
-EndsWell (statuses.Done ends.AllRun) = Unit {0}
-EndsWell (statuses.Done ends.ScheduleEnd) = ⊥
-EndsWell (statuses.Done (ends.Stopped name value)) = ⊥
-EndsWell (statuses.Done (ends.JournalFull kind count)) = ⊥
-EndsWell (statuses.Stopped name value) = Unit {0}
-EndsWell (statuses.JournalFull kind count) = Unit {0}
-EndsWell statuses.Memory = Unit {0}
-EndsWell (statuses.ReadFault place) = Unit {0}
-EndsWell statuses.WriteFault = Unit {0}
-EndsWell (statuses.Usage place) = ⊥
-EndsWell (statuses.TooLong place) = ⊥
-EndsWell (statuses.BadImage fault) = ⊥
-EndsWell (statuses.BadSchedule place) = ⊥
-EndsWell (statuses.BadPlace range other) = ⊥
-EndsWell (statuses.BadDevice number reason) = ⊥
+-- a run of so many steps made all of them, or the machine stopped, or its journal had no room for a step, which needs more steps
+-- than those that surely have room; or memory or the outside failed
+abbrev pub EndsWell : ℕ → Status → Type 0
+EndsWell count (statuses.Done ends.AllRun) = Unit {0}
+EndsWell count (statuses.Done ends.ScheduleEnd) = ⊥
+EndsWell count (statuses.Done (ends.Stopped name value)) = ⊥
+EndsWell count (statuses.Done (ends.JournalFull kind rows)) = ⊥
+EndsWell count (statuses.Stopped name value) = Unit {0}
+EndsWell count (statuses.JournalFull kind rows) = surely < count
+EndsWell count statuses.Memory = Unit {0}
+EndsWell count (statuses.ReadFault place) = Unit {0}
+EndsWell count statuses.WriteFault = Unit {0}
+EndsWell count (statuses.Usage place) = ⊥
+EndsWell count (statuses.TooLong place) = ⊥
+EndsWell count (statuses.BadImage fault) = ⊥
+EndsWell count (statuses.BadSchedule place) = ⊥
+EndsWell count (statuses.BadPlace range other) = ⊥
+EndsWell count (statuses.BadDevice number reason) = ⊥
 
 -- no file was not read
 abbrev pub NoReadFault : Status → Type 0

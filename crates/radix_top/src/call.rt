@@ -117,9 +117,10 @@ pub fn radix_call<F: Files, K: Sink>(
     ensures reads { F.faults files.old ≤ F.faults files.new }
     ensures writes { K.faults out.old ≤ K.faults out.new }
 
-    // A run whose files are known and good, and whose devices can be plugged, makes all its steps, or stops, or fills its journal,
-    // unless memory or the outside fails; and the outside is never said to fail where its count stays 0.
-    ensures complete { AcceptsRun (F.told files.old) words.now (windows_in (handed ⟦<Box<dyn Device> as Device>⟧.window_size ⟦<Box<dyn Device> as Device>⟧.list ⟦<Box<dyn Device> as Device>⟧.answers bench.old.devices.items)) → EndsWell result }
+    // A run whose files are known and good, and whose devices can be plugged, makes all its steps, or stops, or with more than
+    // 2,496 steps fills its journal, unless memory or the outside fails; and the outside is never said to fail where its count
+    // stays 0.
+    ensures complete { (accepts : AcceptsRun (F.told files.old) words.now (windows_in (handed ⟦<Box<dyn Device> as Device>⟧.window_size ⟦<Box<dyn Device> as Device>⟧.list ⟦<Box<dyn Device> as Device>⟧.answers bench.old.devices.items))) → EndsWell accepts.count result }
     ensures sure_files { F.faults files.new ≡ 0 → NoReadFault result }
     ensures sure_sink { K.faults out.new ≡ 0 → NoWriteFault result }
 {
