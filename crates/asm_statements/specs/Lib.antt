@@ -1,2 +1,4 @@
 pub mod Cursors
+pub mod Expressions
 pub mod Pieces
+pub mod Readings
