@@ -60,6 +60,15 @@ class Operation:
 
 
 @dataclass
+class Text:
+    """The operands of a layout in text. `other` has those of the operations and classes `where`."""
+
+    usual: List[str] = field(default_factory=list)
+    where: List[str] = field(default_factory=list)
+    other: List[str] = field(default_factory=list)
+
+
+@dataclass
 class Layout:
     """A layout of operands with its operations."""
 
@@ -67,6 +76,7 @@ class Layout:
     summary: str
     has_op: bool = False
     fields: List[Field] = field(default_factory=list)
+    text: Text = field(default_factory=Text)
     operations: List[Operation] = field(default_factory=list)
 
 
@@ -119,6 +129,13 @@ def read_field(text):
     return Field(name, kind, read_reading(reading), where, read_reading(other) if other else None)
 
 
+def read_text(text):
+    """`text `OPERAND,OPERAND`, perhaps with `; where `CLASS`, `OPERATION`: `OPERAND,OPERAND`."""
+    usual, where, other = re.fullmatch(r"text `([^`]+)`(?:; where (`[^:]+`): `([^`]+)`)?", text).groups()
+    names = re.findall(r"`(\w+)`", where) if where else []
+    return Text(usual.split(","), names, other.split(",") if other else [])
+
+
 def read_fixed(text):
     """`0:5 = 31, 22:30 = 266`."""
     fixed = []
@@ -137,6 +154,8 @@ def read_layout_line(layout, line):
     """Adds what one line below a layout's heading says."""
     if line == "- `op: Op`":
         layout.has_op = True
+    elif line.startswith("- text "):
+        layout.text = read_text(line[2:])
     elif line.startswith("- "):
         layout.fields.append(read_field(line[2:]))
     elif line.startswith("| `"):

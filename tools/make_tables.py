@@ -1,5 +1,6 @@
 #!/usr/bin/env python3
-"""Writes the files of `ppc_ops`, `word_decoder`, `ppc_decode` and `storage_ops` that repeat the table of docs/INSTRUCTIONS.md.
+"""Writes the files of `ppc_ops`, `word_decoder`, `ppc_decode`, `storage_ops` and `operand_texts` that repeat the table of
+docs/INSTRUCTIONS.md.
 
 With `--check` it writes nothing, and fails where a file is not what the table gives.
 """
@@ -12,6 +13,7 @@ from access_forms import access_files
 from instruction_table import PRIMARY, read_table
 from opcode_branches import branch_files
 from operand_fields import operand_files
+from operand_texts import text_files
 from round_trip import round_trip_files
 from word_fields import word_files
 
@@ -297,6 +299,7 @@ def all_files(table):
     files.update(word_files(table))
     files.update(round_trip_files(table))
     files.update(access_files(table))
+    files.update(text_files(table))
     return files
 
 

@@ -1,0 +1,42 @@
+// Written by tools/make_tables.py from docs/INSTRUCTIONS.md.
+//! The fields of forms that stand in text.
+
+/// A field of a form that stands in text as an operand, or as a part of one. It is named as in `Insn`.
+#[derive(Clone, Copy, Debug, PartialEq, Eq)]
+pub enum Field {
+    Rt,
+    Ra,
+    Si,
+    D,
+    Rb,
+    Third,
+    Rs,
+    Ui,
+    Sh,
+    By,
+    Mb,
+    Me,
+    Edge,
+    Bit,
+    Bf,
+    Wide,
+    Value,
+    Two,
+    Bfa,
+    To,
+    Li,
+    Bo,
+    Bi,
+    Bd,
+    Bt,
+    Ba,
+    Bb,
+    Fxm,
+    Disp,
+    Spr,
+    L,
+    Ric,
+    Prs,
+    R,
+    Lev,
+}
