@@ -1,4 +1,7 @@
 pub mod Cursors
 pub mod Expressions
+pub mod Mnemonics
+pub mod Operands
 pub mod Pieces
 pub mod Readings
+pub mod Statements

@@ -2,11 +2,23 @@
 #![tactic(auto)]
 
 mod expression;
+mod line;
+mod mnemonic;
+mod operand;
+mod operand_list;
+mod operand_reading;
 mod piece;
 mod pieces;
 mod spelling;
+mod statement;
+mod statement_reading;
 
 pub use expression::{Atom, Expression, Term};
+pub use line::{Line, read_line};
+pub use mnemonic::Mnemonic;
+pub use operand::{Half, Number, Operand};
+pub use operand_list::Operands;
 pub use piece::{Piece, Sign};
 pub use pieces::Pieces;
 pub use spelling::Spelling;
+pub use statement::{Directive, Statement, Width};

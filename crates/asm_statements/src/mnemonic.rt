@@ -1,0 +1,104 @@
+//! Names of operations with their marks.
+
+ghost use Rattle.std.specs.Prelude.{◌≡◌, ◌<◌, length, option_and_then, drop};
+ghost use Rattle.ppc_ops.specs.Table.{operations};
+ghost use Rattle.asm_statements.specs.Mnemonics.{with_marks, takes_marks, behind_front, as_name_of, name_among, mnemonic_of};
+
+use crate::spelling::Spelling;
+use operand_texts::{takes_absolute, takes_link, takes_overflow, takes_record};
+use ppc_ops::{Op, name, row, row_count};
+
+/// An operation with the marks of its name.
+#[derive(Clone, Copy, Debug, PartialEq, Eq)]
+pub struct Mnemonic {
+    /// The operation.
+    pub op: Op,
+    /// Whether `o` stands behind the name: the overflow bits are asked for.
+    pub oe: bool,
+    /// Whether `.` stands behind the name, or behind `o`: the record in CR field 0 is asked for.
+    pub rc: bool,
+    /// Whether `l` stands behind the name: the link register is set.
+    pub lk: bool,
+    /// Whether `a` stands behind the name, or behind `l`: the target is absolute.
+    pub aa: bool,
+}
+
+/// An operation with the marks that stand behind its name.
+fn with_marks(op: Op, marks: &[u8]) -> Option<Mnemonic>
+    ensures { result ≡ with_marks op marks.now }
+{
+    let plain = Mnemonic {
+        op,
+        oe: false,
+        rc: false,
+        lk: false,
+        aa: false,
+    };
+    match marks {
+        b"" => Some(plain),
+        b"o" => Some(Mnemonic { oe: true, ..plain }),
+        b"." => Some(Mnemonic { rc: true, ..plain }),
+        b"o." => Some(Mnemonic {
+            oe: true,
+            rc: true,
+            ..plain
+        }),
+        b"l" => Some(Mnemonic { lk: true, ..plain }),
+        b"a" => Some(Mnemonic { aa: true, ..plain }),
+        b"la" => Some(Mnemonic {
+            lk: true,
+            aa: true,
+            ..plain
+        }),
+        _ => None,
+    }
+}
+
+/// Whether the operation has the marks.
+fn takes_marks(mnemonic: Mnemonic) -> bool
+    ensures { result ≡ takes_marks mnemonic }
+{
+    (!mnemonic.oe || takes_overflow(mnemonic.op))
+        && (!mnemonic.rc || takes_record(mnemonic.op))
+        && (!mnemonic.lk || takes_link(mnemonic.op))
+        && (!mnemonic.aa || takes_absolute(mnemonic.op))
+}
+
+/// What stands behind a front of a word.
+fn behind_front<'a>(front: &[u8], word: &'a [u8]) -> Option<Spelling<'a>>
+    ensures { result ≡ behind_front front.now word.now }
+{
+    for (i, byte) in front.iter().enumerate() {
+        if i >= word.len() || word[i] != *byte {
+            return None;
+        }
+    }
+    Some(Spelling::of(&word[front.len()..]))
+}
+
+/// The word as the name of an operation with marks that it has.
+fn as_name_of(op: Op, word: &[u8]) -> Option<Mnemonic>
+    ensures { result ≡ as_name_of op word.now }
+{
+    let marks = behind_front(name(op).as_bytes(), word)?;
+    let mnemonic = with_marks(op, marks.bytes())?;
+    if takes_marks(mnemonic) {
+        Some(mnemonic)
+    } else {
+        None
+    }
+}
+
+/// The operation and the marks that a word names.
+pub(crate) fn mnemonic_of(word: &[u8]) -> Option<Mnemonic>
+    ensures { result ≡ mnemonic_of word.now }
+{
+    for i in 0..row_count() {
+        if let Some(row) = row(i) {
+            if let Some(mnemonic) = as_name_of(row.op, word) {
+                return Some(mnemonic);
+            }
+        }
+    }
+    None
+}
