@@ -1,4 +1,0 @@
-use Rattle.asm_statements.proofs.pieces.Pieces.before_comma.Goals as goal
-
-pub returns : goal.returns
-returns c = ?
