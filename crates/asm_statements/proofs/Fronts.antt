@@ -42,9 +42,9 @@ begins rest old new t p ok start read e =
     let none_before : 0 + t.to ≡ t.to = omega arith in
     let there : new ≡ record { bytes = rest; place = t.to } = read.1 ∙ ap (λ (d : Cursor). at d.bytes t.to) start in
     let later : tokens_at new ≡ moved t.to (tokens_of behind) =
-        ap tokens_at there ∙ ap (λ place. tokens_from place 0 behind) (sym none_before) ∙ tokens_from-moved 0 t.to 0 behind in
+    ap tokens_at there ∙ ap (λ place. tokens_from place 0 behind) (sym none_before) ∙ tokens_from-moved 0 t.to 0 behind in
     let all : tokens_of rest ≡ prepended t (moved t.to (tokens_of behind)) =
-        sym (ap tokens_at start) ∙ read.0 ∙ ap (prepended t) later in
+    sym (ap tokens_at start) ∙ read.0 ∙ ap (prepended t) later in
     let parts = first_of_them rest t p (tokens_of behind) (sym (ap is_ok all) ∙ ok) e in
     (ap (pieces_for rest) all ∙ parts.0, parts.1)
   where

@@ -8,3 +8,6 @@ mod spelling;
 pub use piece::{Piece, Sign};
 pub use pieces::Pieces;
 pub use spelling::Spelling;
+
+#[cfg(test)]
+mod tests;
