@@ -3,7 +3,7 @@ mod FirstBytes
 mod Gaps
 mod Gathered
 mod Longest
-mod Moved
+pub mod Moved
 mod NumberAt
 mod OneLine
 mod Runs

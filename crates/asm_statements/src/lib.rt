@@ -22,3 +22,6 @@ pub use piece::{Piece, Sign};
 pub use pieces::Pieces;
 pub use spelling::Spelling;
 pub use statement::{Directive, Statement, Width};
+
+#[cfg(test)]
+mod tests;

@@ -1,6 +1,7 @@
 //! Reading statements.
 
 ghost use Rattle.std.specs.Prelude.{◌≡◌};
+ghost use Rattle.std.specs.Str.{bytes_eq};
 ghost use Rattle.asm_statements.specs.Statements.{directive_of, name_in, text_in, definition_in, directive_in, instruction_in, statement_of};
 
 use crate::expression::{Expression, is_plain};
@@ -12,22 +13,45 @@ use crate::spelling::Spelling;
 use crate::statement::{Directive, Statement, Width};
 use operand_texts::operands;
 
+/// Whether a word is spelled so.
+fn is_spelled(word: &[u8], name: &str) -> bool
+    ensures { result ≡ bytes_eq word.now name.now }
+{
+    word == name.as_bytes()
+}
+
 /// The directive that a word names.
 fn directive_of(word: &[u8]) -> Option<Directive>
     ensures { result ≡ directive_of word.now }
 {
-    match word {
-        b".seg" => Some(Directive::Seg),
-        b".entry" => Some(Directive::Entry),
-        b".equ" => Some(Directive::Equ),
-        b".word" => Some(Directive::Word),
-        b".dword" => Some(Directive::Dword),
-        b".bedword" => Some(Directive::Bedword),
-        b".ascii" => Some(Directive::Ascii),
-        b".space" => Some(Directive::Space),
-        b".align" => Some(Directive::Align),
-        _ => None,
+    if is_spelled(word, ".seg") {
+        return Some(Directive::Seg);
     }
+    if is_spelled(word, ".entry") {
+        return Some(Directive::Entry);
+    }
+    if is_spelled(word, ".equ") {
+        return Some(Directive::Equ);
+    }
+    if is_spelled(word, ".word") {
+        return Some(Directive::Word);
+    }
+    if is_spelled(word, ".dword") {
+        return Some(Directive::Dword);
+    }
+    if is_spelled(word, ".bedword") {
+        return Some(Directive::Bedword);
+    }
+    if is_spelled(word, ".ascii") {
+        return Some(Directive::Ascii);
+    }
+    if is_spelled(word, ".space") {
+        return Some(Directive::Space);
+    }
+    if is_spelled(word, ".align") {
+        return Some(Directive::Align);
+    }
+    None
 }
 
 /// The name that the pieces are.
