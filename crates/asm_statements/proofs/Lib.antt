@@ -1,4 +1,6 @@
+pub mod Counts
 pub mod Ends
 pub mod Fronts
 pub mod Scanned
 mod Terms
+mod Texts

@@ -1,6 +1,6 @@
 //! Expressions: terms joined by plus and minus.
 
-ghost use Rattle.std.specs.Prelude.{◌≡◌, ◌<◌, ◌≤◌, length};
+ghost use Rattle.std.specs.Prelude.{◌≡◌, ◌<◌, ◌≤◌, ◌+◌, ◌*◌, ◌^◌, length};
 ghost use Rattle.asm_statements.specs.Expressions.{is_plain, atom_of, terms_of};
 ghost use Rattle.asm_statements.specs.Cursors.{TakesFirst};
 ghost use Rattle.asm_statements.specs.Readings.{ReadsTerm, IsNext, term_behind};
@@ -169,5 +169,14 @@ impl<'a> Expression<'a> {
             pieces: self.pieces.copy(),
             is_first: self.is_first,
         }
+    }
+
+    /// How many bytes the terms that are left were read from, or more. Each term takes one or more, and so does the sign
+    /// between two.
+    pub fn byte_count(&self) -> usize
+        ensures terms { 2 * length self.now ≤ result + 1 }
+        ensures few { result < 2 ^ 63 }
+    {
+        self.pieces.byte_count()
     }
 }

@@ -2,6 +2,7 @@
 #![tactic(auto)]
 
 mod expression;
+mod laws;
 mod line;
 mod mnemonic;
 mod operand;
@@ -14,6 +15,7 @@ mod statement;
 mod statement_reading;
 
 pub use expression::{Atom, Expression, Term};
+pub use laws::a_text_is_no_longer_than_its_line;
 pub use line::{Line, read_line};
 pub use mnemonic::Mnemonic;
 pub use operand::{Half, Number, Operand};

@@ -1,6 +1,6 @@
 //! Going through the pieces of a line.
 
-ghost use Rattle.std.specs.Prelude.{◌≡◌, ◌||◌, ◌&&◌, true};
+ghost use Rattle.std.specs.Prelude.{◌≡◌, ◌≤◌, ◌<◌, ◌^◌, length, true};
 ghost use Rattle.asm_statements.specs.declared.piece.Sign.TheVariants as signs;
 ghost use Rattle.asm_statements.specs.Pieces.{has_tokens, line_pieces, before, is_sign};
 ghost use Rattle.asm_statements.specs.Cursors.{TakesFirst, Begins, SkipsPast};
@@ -150,5 +150,13 @@ impl<'a> Pieces<'a> {
                 None => return false,
             }
         }
+    }
+
+    /// How many bytes are left, of which each piece takes one or more.
+    pub(crate) fn byte_count(&self) -> usize
+        ensures pieces { length self.now ≤ result }
+        ensures few { result < 2 ^ 63 }
+    {
+        self.rest.len()
     }
 }

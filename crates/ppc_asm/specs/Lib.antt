@@ -1,0 +1,6 @@
+pub mod FirstPass
+pub mod Keeping
+pub mod Lines
+pub mod Names
+pub mod Places
+pub mod Sums
