@@ -49,6 +49,10 @@ abbrev pub name_among : List Op → List ℕ → Option Mnemonic
 name_among [] word = None
 name_among (op ∷ ops) word = first_of (as_name_of op word) (name_among ops word)
 
+-- all operations, in the order of the table; a name of its own, since the list is long
+unfoldable pub all_operations : List Op
+all_operations = operations
+
 -- the operation and the marks that a word names
 abbrev pub mnemonic_of : List ℕ → Option Mnemonic
-mnemonic_of word = name_among operations word
+mnemonic_of word = name_among all_operations word
