@@ -101,3 +101,9 @@ first_pass source = after_lines 1 (lines_of source) no_places
 abbrev pub Passes : List ℕ → Result Places AsmFault → Type 0
 Passes source (Err faults.Memory) = Unit {0}
 Passes source result = result ≡ first_pass source
+
+-- What adding a line of a number answers, and the places that it leaves.
+abbrev pub AddsLine : ℕ → List ℕ → Places → Places → Result (Unit {0}) AsmFault → Type 0
+AddsLine number line old new (Ok u) = after_bytes number line old ≡ Ok new
+AddsLine number line old new (Err faults.Memory) = Unit {0}
+AddsLine number line old new (Err (faults.At at kind)) = after_bytes number line old ≡ Err (faults.At at kind)

@@ -1,6 +1,8 @@
 -- How great the numbers of the first pass can get.
-use Rattle.std.specs.Prelude.{◌≡◌, ◌≤◌, ◌<◌, ℕ, ◌+◌, ◌*◌, ◌^◌, List, [], ◌∷◌, map, ℤ, pos, negsuc}
-use Rattle.ppc_asm.specs.Names.{Definition, defined}
+use Rattle.std.specs.Prelude.{◌≡◌, ◌≤◌, ◌<◌, ℕ, ◌+◌, ◌-◌, ◌*◌, ◌^◌, List, [], ◌∷◌, map, length, false, ℤ, pos, negsuc}
+use Rattle.asm_statements.specs.declared.statement.Statement.{Statement}
+use Rattle.asm_statements.specs.declared.statement.Statement.TheVariants as statements
+use Rattle.ppc_asm.specs.Names.{Definition, defined, is_defined}
 use Rattle.ppc_asm.specs.Places.{most_zeros}
 use Rattle.ppc_asm.specs.declared.names.Names.TheInside.{Inside}
 use Rattle.ppc_asm.specs.declared.places.SegmentLine.{SegmentLine}
@@ -50,3 +52,8 @@ pub record AddsTo (statement : Statement) (p : Places) : Type 0 where
   pub zeros : p.zeros ≤ most_zeros
   pub sizes : HaveAtMost (2 ^ 64 - 1 - most_zeros - text_size statement) p.segments
   pub new : IsNew statement p
+
+-- there is room for the zeros and for a line of so many bytes
+pub record IsRoomy (bytes : ℕ) (p : Places) : Type 0 where
+  pub zeros : p.zeros ≤ most_zeros
+  pub sizes : HaveAtMost (2 ^ 64 - 1 - most_zeros - 8 - bytes) p.segments

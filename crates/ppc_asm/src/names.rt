@@ -50,13 +50,7 @@ impl<'a> Names<'a> {
         ensures small { IfSome result IsSmall }
     {
         match self.map.get_full(&name) {
-            Some((index, _key, value)) => {
-                if index < known {
-                    Some(*value)
-                } else {
-                    None
-                }
-            }
+            Some((index, _key, value)) => { if index < known { Some(*value) } else { None } }
             None => None,
         }
     }

@@ -1,15 +1,17 @@
 //! The first pass over a source.
 
-ghost use Rattle.std.specs.Prelude.{◌≡◌, ◌+◌, OnOk, Ok, Err, None};
+ghost use Rattle.std.specs.Prelude.{◌≡◌, length};
 ghost use Rattle.ppc_asm.specs.FirstPass as said;
-ghost use Rattle.ppc_asm.specs.FirstPass.{Passes};
-ghost use Rattle.ppc_asm.specs.Places.{after_line};
+ghost use Rattle.ppc_asm.specs.FirstPass.{Passes, AddsLine};
+ghost use Rattle.ppc_asm.specs.Names as defined;
+ghost use Rattle.ppc_asm.specs.Sums as sums;
+ghost use Rattle.ppc_asm.specs.Keeping.{IsRoomy};
 
 use crate::fault::{AsmFault, AsmKind};
 use crate::lines::line_length;
 use crate::names::Names;
 use crate::places::Places;
-use asm_statements::{Expression, Line, Pieces, Spelling, Statement, read_line};
+use asm_statements::{Atom, Expression, Line, Pieces, Spelling, Statement, read_line};
 use std::alloc::Global;
 
 /// The most lines of a source.
@@ -17,7 +19,7 @@ const MOST_LINES: u32 = 65536;
 
 /// Whether the address of the statement is one of the terms.
 fn uses_here<'a>(expression: &Expression<'a>) -> bool
-    ensures { result ≡ uses_here expression.now }
+    ensures { result ≡ sums.uses_here expression.now }
 {
     let mut left = expression.copy();
     loop {
@@ -33,7 +35,7 @@ fn uses_here<'a>(expression: &Expression<'a>) -> bool
 }
 
 fn is_defined<'a>(names: &Names<'a>, name: &[u8]) -> bool
-    ensures { result ≡ is_defined names.now name.now }
+    ensures { result ≡ defined.is_defined names.now name.now }
 {
     names.value(name, names.len()).is_some()
 }
@@ -108,17 +110,22 @@ fn fault_of<'a>(number: u32, places: &Places<'a>, line: &Line<'a>) -> Option<Asm
 
 /// Adds a line, or says what is wrong with it.
 fn add_line<'a>(places: &mut Places<'a>, number: u32, bytes: &'a [u8]) -> Result<(), AsmFault>
-    requires { IsWithin .. }
+    requires { IsRoomy (length bytes.now) places.old }
     ensures { AddsLine number bytes.now places.old places.new result }
 {
-    let at = |kind: AsmKind| AsmFault::At { line: number, kind };
     let pieces = match Pieces::of_line(bytes) {
         Some(pieces) => pieces,
-        None => return Err(AsmFault::At { line: number, kind: AsmKind::Lex }),
+        None => return Err(AsmFault::At {
+            line: number,
+            kind: AsmKind::Lex,
+        }),
     };
     let line = match read_line(pieces) {
         Some(line) => line,
-        None => return Err(AsmFault::At { line: number, kind: AsmKind::Form }),
+        None => return Err(AsmFault::At {
+            line: number,
+            kind: AsmKind::Form,
+        }),
     };
     if let Some(kind) = fault_of(number, places, &line) {
         return Err(AsmFault::At { line: number, kind });
@@ -142,7 +149,11 @@ pub fn first_pass<'a>(alloc: Global, bytes: &'a [u8]) -> Result<Places<'a>, AsmF
         number += 1;
         let length = line_length(rest);
         add_line(&mut places, number, &rest[..length])?;
-        rest = if length < rest.len() { &rest[length + 1..] } else { &rest[length..] };
+        rest = if length < rest.len() {
+            &rest[length + 1..]
+        } else {
+            &rest[length..]
+        };
     }
     Ok(places)
 }

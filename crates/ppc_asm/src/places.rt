@@ -1,13 +1,14 @@
 //! What stands where: the names, the segments and the addresses that lines make.
 
-ghost use Rattle.std.specs.Prelude.{◌≡◌, ◌<◌, ◌≤◌, ◌+◌, ◌*◌, ◌^◌, pos, length, OnOk};
+ghost use Rattle.std.specs.Prelude.{◌≡◌, ◌<◌, ◌≤◌, ◌+◌, ◌-◌, ◌^◌, ◌&&◌, false, OnOk};
+ghost use Rattle.ppc_asm.specs.FirstPass.{defines_twice};
 ghost use Rattle.ppc_asm.specs.Places as said;
-ghost use Rattle.ppc_asm.specs.Keeping.{IsWithin, IsSmall};
+ghost use Rattle.ppc_asm.specs.Keeping.{IsSmall, HaveAtMost, AddsTo};
 
 use crate::names::Names;
 use crate::segments::SegmentLines;
 use crate::sum::{Sum, sum};
-use asm_statements::{Expression, Line, Spelling, Statement, Width};
+use asm_statements::{Expression, Spelling, Statement, Width};
 use std::alloc::{AllocError, Global};
 
 /// A segment of a source.
@@ -97,7 +98,11 @@ fn settled_padding(zeros: u32, at: u128, sum: Sum) -> u32
         return 0;
     }
     let count = padding(sum.value as u32, at);
-    if count <= MOST_ZEROS - zeros { count } else { 0 }
+    if count <= MOST_ZEROS - zeros {
+        count
+    } else {
+        0
+    }
 }
 
 /// How many bytes a number has.
@@ -138,7 +143,12 @@ impl<'a> Places<'a> {
         requires { said.here_of self.now < 2 ^ 65 }
         ensures { result ≡ said.worth self.now expression.entry }
     {
-        sum(expression, &self.names, self.names.len(), self.here() as i128)
+        sum(
+            expression,
+            &self.names,
+            self.names.len(),
+            self.here() as i128,
+        )
     }
 
     /// Defines a label with the address of what stands behind it.
@@ -178,7 +188,11 @@ impl<'a> Places<'a> {
     }
 
     /// Adds a statement.
-    pub(crate) fn add_statement(&mut self, line: u32, statement: Statement<'a>) -> Result<(), AllocError>
+    pub(crate) fn add_statement(
+        &mut self,
+        line: u32,
+        statement: Statement<'a>,
+    ) -> Result<(), AllocError>
         requires { AddsTo statement.entry self.old }
         ensures { OnOk result (self.new ≡ said.after_statement line statement.entry self.old) }
     {
