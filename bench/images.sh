@@ -13,13 +13,14 @@ folder=$(mktemp -d)
 trap 'rm -rf "$folder"' EXIT
 beyond=0
 
-# Sets `best` to the microseconds of the best of five runs of a command, whose output goes to the file `out`.
+# Sets `best` to the microseconds of the best of five runs of a command, which stands behind the file for its output.
 time_command() {
-    local before after
+    local out=$1 before after
+    shift
     best=
     for _ in 1 2 3 4 5; do
         before=${EPOCHREALTIME/[.,]/}
-        "$@" >"$folder/out" 2>"$folder/said" || true
+        "$@" >"$out" 2>"$folder/said" || true
         after=${EPOCHREALTIME/[.,]/}
         if [ -z "$best" ] || [ $((after - before)) -lt "$best" ]; then
             best=$((after - before))
@@ -36,21 +37,22 @@ measure_memory() {
     fi
 }
 
-# Times the program over a file. What the file is; the file; the line that the program prints; and the most that is wanted: milliseconds
-# beyond those of `cat`, and MiB of memory.
+# Times the program over a file. What the file is; the file; the line that the program prints; and the most that is wanted: microseconds
+# beyond those of `cat`, and KiB of memory.
 time_file() {
     local name=$1 file=$2 line=$3 limit=$4 room=$5 alone
-    time_command cat "$file"
+    time_command /dev/null cat "$file"
     alone=$best
-    time_command "$program" run "$file" "$folder/schedule" 1
+    time_command "$folder/out" "$program" run "$file" "$folder/schedule" 1
     if [ "$(cat "$folder/out")" != "$line" ]; then
         echo "bench: $name: wanted '$line', came '$(head -n 1 "$folder/out")'" >&2
         exit 1
     fi
     measure_memory "$file"
-    echo "$name, '$line': best of five $best us, cat takes $alone, at most $limit ms more wanted;" \
-        "$((held - base)) KiB of memory more, at most $((room * 1024)) wanted"
-    if [ $((best - alone)) -gt $((limit * 1000)) ] || [ $((held - base)) -gt $((room * 1024)) ]; then
+    echo "$name: $line"
+    echo "  best of five: $best us; cat takes $alone us, and at most $limit more are wanted"
+    echo "  memory: $((held - base)) KiB more than over an empty file, at most $room wanted"
+    if [ $((best - alone)) -gt "$limit" ] || [ $((held - base)) -gt "$room" ]; then
         beyond=1
     fi
 }
@@ -73,12 +75,12 @@ head -c $most /dev/zero >"$folder/zeros"
 
 measure_memory "$folder/empty"
 base=$held
-# The file's bytes, and one copy of them.
+# The file's bytes and one copy of them, and 2 MiB.
 time_file 'an image of 64 MiB' "$folder/long.elf" \
-    'fault place 0000000000010000 000000000400ff88 0000000000000000 0000000001000000' 200 130
+    'fault place 0000000000010000 000000000400ff88 0000000000000000 0000000001000000' 200000 $((130 * 1024))
 printf 'x' >>"$folder/long.elf"
-time_file 'a byte more' "$folder/long.elf" 'fault long 1' 300 70
-time_file '64 MiB of zeros' "$folder/zeros" 'fault image Magic' 300 70
+time_file 'a byte more' "$folder/long.elf" 'fault long 1' 300000 $((70 * 1024))
+time_file '64 MiB of zeros' "$folder/zeros" 'fault image Magic' 300000 $((70 * 1024))
 
 if [ ! -x /usr/bin/time ]; then
     echo "memory was not measured, since /usr/bin/time is not there"
