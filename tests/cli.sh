@@ -223,6 +223,8 @@ expect_usage 3 "N is '--trace', and must be 0 to 1048576 in decimal, before all 
 [ $? -eq 14 ] || fail 'exit status of a full journal' 14 other
 [ "$(sed -n 2,4p out | tr '\n' ' ')" = 'end full devices 262144 steps 524288 tb 0000000000080000 ' ] || fail 'a full journal' 'end full devices 262144' "$(sed -n 2,4p out)"
 [ "$(wc -c <out)" -eq 1049818 ] || fail 'the length of a report' 1049818 "$(wc -c <out)"
+{ printf 'console 0 262144 '; yes '\x00' | head -n 262144 | tr -d '\n'; echo; } >shown
+sed -n 25p out | cmp -s - shown || fail "the console's line" 'console 0 262144, and 262144 times \x00' "$(sed -n 25p out | head -c 80) .."
 compare 'what is said of a full journal' err "radix: no room in the journal after step 524287, at address 10004, word 98640000: its list of devices has 262144 rows (docs/MACHINE.md, \"Limits\")$line"
 count=$((count + 2))
 
