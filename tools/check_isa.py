@@ -6,7 +6,8 @@ Three comparisons, with random words of a fixed seed:
   2. text of each row is assembled, and the word is compared with the row's;
   3. words over the whole space of opcodes are disassembled: those of a row are compared as in 1, also with bits that
      the row ignores; those of no row must be unknown to binutils or stand in one of the lists of what is absent.
-What differs and stands neither in PROFILE nor in these lists is printed, and the exit status is then 1.
+What differs and stands neither in PROFILE nor in these lists is printed, and the exit status is then 1. Before them the operands
+in text that the table has are compared with those of SYNTAX.
 """
 
 import argparse
@@ -88,6 +89,18 @@ SYNTAX = {
     'dcbt dcbtst': '{ra:z},{rb:r},{word:6:10}',  # the hint TH
 }
 TEMPLATES = {name: template for names, template in SYNTAX.items() for name in names.split()}
+
+# Operations whose operands the table writes in another order than GNU, or with one more.
+OWN_TEXTS = ['mtcrf', 'mtocrf', 'cmpeqb']
+
+# How an operand of the table's text is one of SYNTAX: the first form that fits. A displacement is two operands.
+OPERAND_FORMS = [
+    (r'r([A-Z]+)\|0', '{%s:z}'),
+    (r'r([A-Z]+)', '{%s:r}'),
+    (r'\.±([A-Z]+)', '{%s:target}'),
+    (r'±([A-Z]+)', '{%s}'),
+    (r'([A-Z]+)', '{%s}'),
+]
 
 # Letters after the mnemonic, by the field that asks for them, in their order.
 SUFFIXES = [('oe', 'o'), ('rc', '.'), ('lk', 'l'), ('aa', 'a')]
@@ -299,12 +312,40 @@ def check_fields(operation):
         sys.exit('check_isa: %s has the fields %s, but %s are compared' % (operation.name, names, written))
 
 
+def template_of(text):
+    """A text of the table as one of SYNTAX."""
+    def operand(match):
+        for form, template in OPERAND_FORMS:
+            whole = re.fullmatch(form, match[0])
+            if whole:
+                return template % whole[1].lower()
+        sys.exit('check_isa: the text %s has no known operand in %s' % (text, match[0]))
+
+    return re.sub(r'[^,()]+', operand, text)
+
+
+def check_text(operation, line, groups):
+    """Ends the check where the table writes a row's operands otherwise than SYNTAX, or a row of OWN_TEXTS likewise.
+
+    GNU's hints are no operands here, fields and bits of the condition register are numbers, and RA of a form with update is
+    never 0.
+    """
+    usual, names, other = re.fullmatch(r'- text `(.*?)`(?:; where (.*): `(.*)`)?\n', line).groups() if line else ('', '', '')
+    is_other = set(re.findall(r'`(\w+)`', names or '')) & set([operation.name] + groups)
+    wanted = re.sub(r',{word:.*?}', '', re.sub(':(cr|bit)}', '}', operation.template))
+    if any(group.endswith('_with_update') for group in groups):
+        wanted = wanted.replace(':z}', ':r}')
+    if (template_of(other if is_other else usual) == wanted) == (operation.name in OWN_TEXTS):
+        sys.exit('check_isa: the table writes the operands of %s as %s' % (operation.name, other if is_other else usual))
+
+
 def read_table(path):
     """The operations of the table."""
     with open(path, encoding='utf-8') as file:
         lines = file.readlines()
     classes = {}
     field_lines = collections.defaultdict(list)
+    text_lines = {}
     operations = []
     for line in lines:
         class_line = re.match(r'- `(\w+)` \((.*?)\):', line)
@@ -317,11 +358,14 @@ def read_table(path):
             layout = layout_line[1]
         elif field_line:
             field_lines[layout].append(field_line.groups())
+        elif line.startswith('- text '):
+            text_lines[layout] = line
         elif row:
             groups = [group for group, members in classes.items() if row[1] in members]
             fields = [parse_field(name, text, groups) for name, text in field_lines[layout]]
             operations.append(Operation(row[1], layout, row[2], list(filter(None, fields)), groups))
             check_fields(operations[-1])
+            check_text(operations[-1], text_lines.get(layout), groups)
     return operations
 
 

@@ -12,7 +12,7 @@ import textwrap
 from access_forms import access_files
 from instruction_table import PRIMARY, read_table
 from opcode_branches import branch_files
-from operand_fields import operand_files
+from operand_fields import operand_files, pattern_lines
 from operand_texts import text_files
 from round_trip import round_trip_files
 from word_fields import word_files
@@ -240,14 +240,6 @@ def class_function(table, operation_class):
         *body,
         "}",
     ]
-
-
-def pattern_lines(variants):
-    """A pattern of alternatives over one or several lines."""
-    whole = "        " + " | ".join(variants)
-    if len(whole) <= 100:
-        return [whole]
-    return ["        " + variants[0]] + [f"            | {variant}" for variant in variants[1:]]
 
 
 def classes_file(table):

@@ -35,10 +35,21 @@ HELPERS = {
 
 
 def import_lines(path, names):
-    """A `use` of several names, broken into lines."""
+    """A `use` of several names, broken into lines where it is long."""
+    whole = f"use {path}::{{{', '.join(names)}}};"
+    if len(whole) <= LINE:
+        return [whole]
     indent = " " * 4
-    wrapped = textwrap.wrap(", ".join(names) + ",", LINE, initial_indent=indent, subsequent_indent=indent)
+    wrapped = textwrap.wrap(", ".join(names) + ",", LINE - 1, initial_indent=indent, subsequent_indent=indent)
     return [f"use {path}::{{", *wrapped, "};"]
+
+
+def pattern_lines(variants):
+    """A pattern of alternatives over one or several lines."""
+    whole = "        " + " | ".join(variants)
+    if len(whole) <= LINE:
+        return [whole]
+    return ["        " + variants[0]] + [f"            | {variant}" for variant in variants[1:]]
 
 
 def snake(name):

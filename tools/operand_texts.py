@@ -2,11 +2,10 @@
 
 import re
 
-from operand_fields import snake
+from operand_fields import import_lines, pattern_lines, snake
 
 TEXTS = "crates/operand_texts"
-LINE = 100
-ARRAY_WIDTH = 60  # the layout of Rust breaks longer arrays
+LIST_WIDTH = 60  # the layout of Rust breaks longer lists of values
 KINDS = ["DisplacementOrZero", "Displacement", "Number", "RegisterOrZero", "Register", "Signed", "Target"]
 
 # The marks behind an operation's name: the field that asks for one, the function, and what the function says.
@@ -82,6 +81,13 @@ def text_fields(table):
     return list(dict.fromkeys(fields))
 
 
+def fields_alone(table):
+    """The fields that an operand in text names; a displacement names none."""
+    pairs = [read_operand(text) for layout in table.layouts for text in layout.text.usual + layout.text.other]
+    named = {name for kind, name in pairs if not is_displacement(kind)}
+    return [name for name in text_fields(table) if name in named]
+
+
 def fields_file(table):
     """The enum `Field`."""
     return [
@@ -104,9 +110,9 @@ def code_of_operand(text):
 def code_of_list(operands, indent, before="", after=""):
     """The lines of a list of operands in the code."""
     codes = [code_of_operand(text) for text in operands]
-    whole = f"[{', '.join(codes)}]"
-    if len(whole) <= ARRAY_WIDTH:
-        return [f"{indent}{before}&{whole}{after}"]
+    whole = ", ".join(codes)
+    if len(whole) <= LIST_WIDTH:
+        return [f"{indent}{before}&[{whole}]{after}"]
     return [f"{indent}{before}&["] + [f"{indent}    {code}," for code in codes] + [f"{indent}]{after}"]
 
 
@@ -164,20 +170,6 @@ def layout_arm(layout):
     return code_of_list(layout.text.usual, " " * 8, before, ",")
 
 
-def import_lines(path, names):
-    """A `use` of several names, broken into lines."""
-    whole = f"use {path}::{{{', '.join(names)}}};"
-    if len(whole) <= LINE:
-        return [whole]
-    lines, line = [f"use {path}::{{"], ""
-    for name in names:
-        if len(f"    {line}{name},") > LINE:
-            lines.append(f"    {line.rstrip()}")
-            line = ""
-        line += f"{name}, "
-    return lines + [f"    {line.rstrip()}", "};"]
-
-
 def lists_file(table):
     """The function `operands`."""
     lines = [
@@ -189,7 +181,7 @@ def lists_file(table):
         + ", ".join(["operand_texts", "layout_texts"] + [f"is_{name}" for name in single_operations(table)])
         + "};",
         "",
-        *import_lines("crate::fields::Field", sorted(capital(name) for name in text_fields(table))),
+        *import_lines("crate::fields::Field", sorted(capital(name) for name in fields_alone(table))),
         "use crate::kinds::OperandText;",
         *import_lines("crate::kinds::OperandText", sorted(KINDS)),
         *import_lines("ppc_ops", ["Layout", "Op"] + sorted(["layout"] + used_classes(table))),
@@ -223,7 +215,7 @@ def spec_of_list(operands):
 def lists_spec(table):
     """The definition of the operands."""
     singles = ", ".join(table.operation(name).variant() for name in single_operations(table))
-    variants = ", ".join(capital(name) for name in text_fields(table))
+    variants = ", ".join(capital(name) for name in fields_alone(table))
     lines = [
         "-- How the operands of each operation stand in text, by the layout and, in some layouts, by a class of operations.",
         "use Rattle.std.specs.Prelude.{List, [], ◌∷◌, Bool, true, false, ◌||◌, if◌then◌else◌}",
@@ -285,9 +277,8 @@ def marks_file(table):
         variants = [f"Layout::{layout}" for layout in marked_layouts(table, name)]
         whole = f"layout(op), {' | '.join(variants)}"
         body = [f"    matches!({whole})"]
-        if len(whole) > ARRAY_WIDTH:
-            body = ["    matches!(", "        layout(op),", f"        {variants[0]}"]
-            body += [f"            | {variant}" for variant in variants[1:]] + ["    )"]
+        if len(whole) > LIST_WIDTH:
+            body = ["    matches!(", "        layout(op),", *pattern_lines(variants), "    )"]
         lines += [
             "",
             f"/// Whether the operation's name takes the mark {meaning}.",

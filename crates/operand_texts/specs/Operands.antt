@@ -7,7 +7,7 @@ use Rattle.ppc_ops.specs.declared.insn.Layout.{Layout}
 use Rattle.ppc_ops.specs.declared.insn.Layout.TheVariants as layout
 use Rattle.ppc_ops.specs.Classes.{compares_unsigned, has_one_source, loads_with_update, stores_with_update, takes_zero, turns_by_register}
 use Rattle.ppc_ops.specs.Table.{layout_of}
-use Rattle.operand_texts.specs.declared.fields.Field.TheVariants.{Rt, Ra, Si, D, Rb, Third, Rs, Ui, Sh, By, Mb, Me, Edge, Bit, Bf, Wide, Value, Two, Bfa, To, Li, Bo, Bi, Bd, Bt, Ba, Bb, Fxm, Disp, Spr, L, Ric, Prs, R, Lev}
+use Rattle.operand_texts.specs.declared.fields.Field.TheVariants.{Rt, Ra, Si, D, Rb, Third, Rs, Ui, Sh, By, Mb, Me, Edge, Bit, Bf, Wide, Value, Two, Bfa, To, Li, Bo, Bi, Bd, Bt, Ba, Bb, Fxm, Spr, L, Ric, Prs, R, Lev}
 use Rattle.operand_texts.specs.declared.kinds.OperandText.{OperandText}
 use Rattle.operand_texts.specs.declared.kinds.OperandText.TheVariants.{DisplacementOrZero, Displacement, Number, RegisterOrZero, Register, Signed, Target}
 

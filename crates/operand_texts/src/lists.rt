@@ -6,8 +6,8 @@ ghost use Rattle.ppc_ops.specs.declared.insn.Layout.TheVariants as layouts;
 ghost use Rattle.operand_texts.specs.Operands.{operand_texts, layout_texts, is_rlwnm};
 
 use crate::fields::Field::{
-    Ba, Bb, Bd, Bf, Bfa, Bi, Bit, Bo, Bt, By, D, Disp, Edge, Fxm, L, Lev, Li, Mb, Me, Prs, R, Ra,
-    Rb, Ric, Rs, Rt, Sh, Si, Spr, Third, To, Two, Ui, Value, Wide,
+    Ba, Bb, Bd, Bf, Bfa, Bi, Bit, Bo, Bt, By, D, Edge, Fxm, L, Lev, Li, Mb, Me, Prs, R, Ra, Rb,
+    Ric, Rs, Rt, Sh, Si, Spr, Third, To, Two, Ui, Value, Wide,
 };
 use crate::kinds::OperandText;
 use crate::kinds::OperandText::{
