@@ -83,8 +83,10 @@ fn a_device_is_dropped_once_by_who_holds_it(rt: HostRuntime) -> Result<(), Fail>
         assert_eq!(rt; next_step(&mut machine)?, StepEnd::Ran);
     }
     assert_eq!(rt; drops.get(), 0);
+    assert_eq!(rt; machine.bus().slot_at(0x1000_0007), Some((0, 7)));
     assert_eq!(rt; next_step(&mut machine)?, StepEnd::Ran);
     assert_eq!(rt; drops.get(), 1);
+    assert_eq!(rt; machine.bus().slot_at(0x1000_0007), None);
     drop(machine);
     assert_eq!(rt; drops.get(), 1);
 

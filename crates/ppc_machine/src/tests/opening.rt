@@ -76,8 +76,8 @@ fn the_first_reason_refuses_and_hands_the_devices_back(rt: HostRuntime) -> Resul
 
 #[test]
 fn ram_ends_where_its_size_says(rt: HostRuntime) -> Result<(), Fail> {
-    // RAM, where its last eight bytes begin, and how a store of 8 at FFFFFFC ends: it stands in the last bytes of the most RAM and
-    // in the console's window
+    // RAM, where its last eight bytes begin, and how a store of 8 at FFFFFFC ends, across the end of 256 MiB and the start of the
+    // console's window. Without optimization that much RAM takes minutes to open: rt try --test --seconds 500
     let cases = [
         (1u16, 0xf_fff8u32, StopName::NoStorage, 0xfff_fffc),
         (256, 0xfff_fff8, StopName::DeviceAccess, 0x1000_0000),
