@@ -41,19 +41,11 @@ fn traces_end_with_what_happened(rt: HostRuntime) -> Result<(), Fail> {
         0xf8c5_0008,
         0x98c4_0000,
     ];
-    // a program, N, the status, and the begin and the end of the report
-    let cases: [(&[u32], &str, Status, &str, &str); 2] = [
+    let cases: [(&[u32], &str, Status, &str); 2] = [
         (
             &alignment,
             "2",
             Status::Done(Ended::AllRun),
-            "radix 1
-end all
-steps 2
-tb 0000000000000002
-thread 0
-nia 0000000000000600 msr 9000000000001001
-",
             "
 s 0 0 ran 0000000000010000 38600001 R0000000000010000 - -
 s 1 0 took 0000000000010004 7ca01eea 600 R0000000000010004 - -
@@ -64,13 +56,6 @@ s 1 0 took 0000000000010004 7ca01eea 600 R0000000000010004 - -
             &ejected,
             "9",
             Status::Stopped(StopName::NoStorage, 0x1000_0000),
-            "radix 1
-end stopped NoStorage 0000000010000000
-steps 5
-tb 0000000000000004
-thread 0
-nia 0000000000010010 msr 9000000000001001
-",
             "
 s 4 0 stop 0000000000010010 98c40000 NoStorage 0000000010000000 R0000000000010010 R0000000010000000 -
 d 3 1 00000008 8 store 0000000000000000 eject 0
@@ -78,11 +63,10 @@ d 3 1 00000008 8 store 0000000000000000 eject 0
 ",
         ),
     ];
-    for (words, count, status, head, rows) in cases {
+    for (words, count, status, rows) in cases {
         if words.len() < 100 {
             let left = traced(rt.alloc(), words, count)?;
             assert_eq!(rt; left.status, status);
-            assert!(rt; left.text.as_slice().starts_with(head.as_bytes()));
             assert!(rt; left.text.as_slice().ends_with(rows.as_bytes()));
         }
     }
