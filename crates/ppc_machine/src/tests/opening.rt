@@ -1,7 +1,7 @@
 //! Machines that are opened or refused.
 
 use super::bench::{devices_with_tape_at, image_at, machine_at, run};
-use crate::{Machine, OpenFault, OpenReason};
+use crate::{Machine, OpenFault, OpenFaultOf, OpenReason, PluggedOf};
 use elf_image::{Guests, Span};
 use journal_core::{Ended, StopName};
 use ppc_bus::{Device, PlugReason};
@@ -13,9 +13,13 @@ fn refused(opened: Result<Machine, OpenFault>) -> Option<(OpenReason, [u64; 3], 
     match opened {
         Ok(_) => None,
         Err(fault) => {
-            let mut devices = fault.devices;
-            match devices.as_mut_slice() {
-                [a, b, c] => Some((fault.reason, [a.at, b.at, c.at], c.device.load(0, 1))),
+            let OpenFaultOf { devices, reason } = fault;
+            let mut devices = devices;
+            let PluggedOf { at, device } = devices.pop()?;
+            let mut tape = device;
+            let next = tape.load(0, 1);
+            match devices.as_slice() {
+                [a, b] => Some((reason, [a.at, b.at, at], next)),
                 _ => None,
             }
         }
