@@ -254,6 +254,37 @@ count=$((count + 6))
 compare 'the line with little memory' out "fault memory$line"
 compare 'what is said with little memory' err "radix: out of memory$line"
 
+# The trace of a store to the console after it was ejected.
+"$top/tools/make_image.sh" 0x10000 0x10000 0x3C801000 0x60851000 0x38C00000 0xF8C50008 0x98C40000 >ejected.elf
+"$program" run ejected.elf first.sched 9 --trace >out 2>err
+[ $? -eq 13 ] || fail 'exit status of a stop at an ejected device' 13 other
+head -n 4 out >head
+compare 'the head of a run that stopped at an ejected device' head "radix 1
+end stopped NoStorage 0000000010000000
+steps 5
+tb 0000000000000004$line"
+tail -n 3 out >tail
+compare 'the rows of a run that stopped at an ejected device' tail "s 4 0 stop 0000000000010010 98c40000 NoStorage 0000000010000000 R0000000000010010 R0000000010000000 -
+d 3 1 00000008 8 store 0000000000000000 eject 0
+.$line"
+compare 'what is said of a stop at an ejected device' err "radix: stopped in step 4, at address 10010, word 98c40000: NoStorage, there is no RAM at real address 10000000 (docs/MACHINE.md, \"Stops\")$line"
+count=$((count + 1))
+
+# Two segments at one place, one that ends behind the last address, and a journal that has no room for one more step of a program
+# that sets cache blocks to zero.
+{ head -c 120 first.elf; tail -c +65 first.elf; } >twice.elf
+printf '\x02' | dd of=twice.elf bs=1 seek=56 conv=notrunc status=none
+expect_image 'Overlap 0 1' 'the segments of headers 0 and 1 have a common address' twice.elf
+"$top/tools/make_image.sh" 0 0xfffffffffffffff8 0x38600001 0x48000000 >highest.elf
+expect 10 "fault place fffffffffffffff8 ffffffffffffffff 0000000000000000 0000000001000000$line" \
+    "radix: 'highest.elf': addresses fffffffffffffff8 to ffffffffffffffff have no place in RAM, or beside 0 to 1000000 $see$line" run highest.elf first.sched 3
+"$top/tools/make_image.sh" 0x10000 0x10000 0x3C800002 0x7C0027EC 0x4BFFFFFC >blocks.elf
+"$program" run blocks.elf first.sched 1048576 >out 2>err
+[ $? -eq 14 ] || fail 'exit status of a journal full of writes' 14 other
+[ "$(sed -n 2,4p out | tr '\n' ' ')" = 'end full writes 2097152 steps 262144 tb 0000000000040000 ' ] || fail 'a journal full of writes' 'end full writes 2097152' "$(sed -n 2,4p out)"
+compare 'what is said of a journal full of writes' err "radix: no room in the journal after step 262143, at address 10004, word 7c0027ec: its list of writes has 2097152 rows (docs/MACHINE.md, \"Limits\")$line"
+count=$((count + 1))
+
 # The most steps, and none.
 "$program" run first.elf first.sched 1048576 >out 2>err || fail 'a run of 1,048,576 steps' 0 $?
 [ "$(sed -n 2,3p out | tr '\n' ' ')" = 'end all steps 1048576 ' ] || fail 'a run of 1,048,576 steps' 'all steps' "$(sed -n 2,3p out)"

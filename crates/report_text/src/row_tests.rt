@@ -347,11 +347,13 @@ fn a_fault_at_any_put_leaves_a_front(rt: HostRuntime) -> Result<(), Fail> {
     let mut whole = MemSink::open(rt.alloc(), 8192)?;
     assert_eq!(rt; report_to(&journal, true, &mut whole), Ok(()));
     for call in 1..32u32 {
-        let mut out = MemSink::open(rt.alloc(), 8192)?;
-        out.fail_call(call, 1)?;
-        assert_eq!(rt; report_to(&journal, true, &mut out), Err(SinkFault));
-        assert!(rt; whole.bytes().starts_with(out.bytes()));
-        assert!(rt; out.bytes().len() < whole.bytes().len());
+        for added in [0, 1] {
+            let mut out = MemSink::open(rt.alloc(), 8192)?;
+            out.fail_call(call, added)?;
+            assert_eq!(rt; report_to(&journal, true, &mut out), Err(SinkFault));
+            assert!(rt; whole.bytes().starts_with(out.bytes()));
+            assert!(rt; out.bytes().len() < whole.bytes().len());
+        }
     }
     let mut out = MemSink::open(rt.alloc(), 8192)?;
     out.fail_call(32, 1)?;
