@@ -1,4 +1,6 @@
 pub mod Ends
 pub mod Fronts
+pub mod Joined
+pub mod Names
 pub mod Scanned
 mod Terms

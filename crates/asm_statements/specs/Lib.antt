@@ -1,5 +1,6 @@
 pub mod Cursors
 pub mod Expressions
+pub mod Lookup
 pub mod Mnemonics
 pub mod Operands
 pub mod Pieces

@@ -1,7 +1,7 @@
 //! Names of operations with their marks.
 
-ghost use Rattle.std.specs.Prelude.{◌≡◌, ◌<◌, length, option_and_then, drop};
-ghost use Rattle.ppc_ops.specs.Table.{operations};
+ghost use Rattle.std.specs.Prelude.{◌≡◌, ◌<◌, length, option_and_then, drop, slice_get};
+ghost use Rattle.asm_statements.specs.Lookup.{all_operations};
 ghost use Rattle.asm_statements.specs.Mnemonics.{with_marks, takes_marks, behind_front, as_name_of, name_among, mnemonic_of};
 
 use crate::spelling::Spelling;
@@ -89,16 +89,33 @@ fn as_name_of(op: Op, word: &[u8]) -> Option<Mnemonic>
     }
 }
 
-/// The operation and the marks that a word names.
-pub(crate) fn mnemonic_of(word: &[u8]) -> Option<Mnemonic>
-    ensures { result ≡ mnemonic_of word.now }
+/// The operation of a row.
+fn operation(i: u16) -> Option<Op>
+    ensures { result ≡ slice_get all_operations i }
+{
+    match row(i) {
+        Some(row) => Some(row.op),
+        None => None,
+    }
+}
+
+/// The operation and the marks that a word names, by a search of the table.
+fn find_name(word: &[u8]) -> Option<Mnemonic>
+    ensures { result ≡ name_among all_operations word.now }
 {
     for i in 0..row_count() {
-        if let Some(row) = row(i) {
-            if let Some(mnemonic) = as_name_of(row.op, word) {
+        if let Some(op) = operation(i) {
+            if let Some(mnemonic) = as_name_of(op, word) {
                 return Some(mnemonic);
             }
         }
     }
     None
+}
+
+/// The operation and the marks that a word names.
+pub(crate) fn mnemonic_of(word: &[u8]) -> Option<Mnemonic>
+    ensures { result ≡ mnemonic_of word.now }
+{
+    find_name(word)
 }
