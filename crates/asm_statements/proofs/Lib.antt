@@ -1,6 +1,8 @@
 pub mod Counts
 pub mod Ends
 pub mod Fronts
+pub mod Joined
+pub mod Names
 pub mod Scanned
 mod Terms
 mod Texts
