@@ -1,7 +1,7 @@
 -- Operands that are read one by one.
-use Rattle.std.proofs.Common.{◌≡◌, ℕ, ◌+◌, ◌<◌, List, [], ◌∷◌, ◌++◌, length, get_or, drop, Option, Some, None, refl, sym, ap, ◌∙◌, arith, append_assoc}
+use Rattle.std.proofs.Common.{◌≡◌, ℕ, ◌+◌, ◌-◌, ◌<◌, ◌≤◌, List, [], ◌∷◌, ◌++◌, length, get_or, take, drop, Option, Some, None, refl, sym, ap, ◌∙◌, arith, append_assoc}
 use Rattle.std.specs.Prelude.{option_and_then}
-use Rattle.std.proofs.lemmas.List.{drop_more, at_drop_more, at_drop_all}
+use Rattle.std.proofs.lemmas.List.{drop_more, at_drop_more, at_drop_all, get_or-take}
 use Rattle.operand_texts.specs.declared.kinds.OperandText.{OperandText}
 use Rattle.asm_statements.specs.declared.piece.Sign.TheVariants as signs
 use Rattle.asm_statements.specs.declared.piece.Piece.{Piece}
@@ -26,50 +26,58 @@ and_nothing : (o : Option Operand) → and_operands o None ≡ None
 and_nothing (Some o) = refl
 and_nothing None = refl
 
+-- a kind of the front that the loop goes over is one of all
+pub kind_read : (kinds : List OperandText) (i : ℕ) (d : OperandText) (ps qs : List Piece) (r o : Option Operand) → i < length kinds - 1
+    → r ≡ operand_of (get_or (take (length kinds - 1) kinds) i d) qs → qs ≡ ps → r ≡ o → operand_of (get_or kinds i d) ps ≡ o
+kind_read kinds i d ps qs r o h read same is =
+    ap (λ k. operand_of k ps) (sym (get_or-take (length kinds - 1) kinds i d h))
+    ∙ ap (operand_of (get_or (take (length kinds - 1) kinds) i d)) (sym same)
+    ∙ sym read
+    ∙ is
+
 -- two kinds or more are left
-two_left : (kinds : List OperandText) (i : ℕ) (kind : OperandText) (ps : List Piece) → i + 1 < length kinds → get_or kinds i kind ≡ kind
-    → operands_of (drop i kinds) ps ≡ and_operands (operand_of kind (before signs.Comma ps)) (option_and_then (operands_of (drop (i + 1) kinds)) (behind signs.Comma ps))
-two_left kinds i kind ps h e =
+two_left : (kinds : List OperandText) (i : ℕ) (d : OperandText) (ps : List Piece) → i + 1 < length kinds
+    → operands_of (drop i kinds) ps ≡ and_operands (operand_of (get_or kinds i d) (before signs.Comma ps)) (option_and_then (operands_of (drop (i + 1) kinds)) (behind signs.Comma ps))
+two_left kinds i d ps h =
     let within : i < length kinds = omega arith in
-    at_drop_more (λ ks. operands_of ks ps) kinds i kind within
-    ∙ ap (λ k. operands_of (k ∷ drop (i + 1) kinds) ps) e
-    ∙ at_drop_more (λ ks. operands_of (kind ∷ ks) ps) kinds (i + 1) kind h
-    ∙ ap (λ ks. and_operands (operand_of kind (before signs.Comma ps)) (option_and_then (operands_of ks) (behind signs.Comma ps))) (sym (drop_more kinds (i + 1) kind h))
+    let kind = get_or kinds i d in
+    at_drop_more (λ ks. operands_of ks ps) kinds i d within
+    ∙ at_drop_more (λ ks. operands_of (kind ∷ ks) ps) kinds (i + 1) d h
+    ∙ ap (λ ks. and_operands (operand_of kind (before signs.Comma ps)) (option_and_then (operands_of ks) (behind signs.Comma ps))) (sym (drop_more kinds (i + 1) d h))
 
 -- an operand with the comma behind it was read
-pub read_one : (kinds : List OperandText) (i : ℕ) (kind : OperandText) (old new : List Piece) (found : List Operand) (o : Operand) → i + 1 < length kinds → get_or kinds i kind ≡ kind
-    → operand_of kind (before signs.Comma old) ≡ Some o → behind signs.Comma old ≡ Some new
+pub read_one : (kinds : List OperandText) (i : ℕ) (d : OperandText) (old new : List Piece) (found : List Operand) (o : Operand) → i + 1 < length kinds
+    → operand_of (get_or kinds i d) (before signs.Comma old) ≡ Some o → behind signs.Comma old ≡ Some new
     → together found (operands_of (drop i kinds) old) ≡ together (found ++ o ∷ []) (operands_of (drop (i + 1) kinds) new)
-read_one kinds i kind old new found o h e read comma =
-    ap (together found) (two_left kinds i kind old h e
+read_one kinds i d old new found o h read comma =
+    ap (together found) (two_left kinds i d old h
     ∙ ap (λ r. and_operands r (option_and_then (operands_of (drop (i + 1) kinds)) (behind signs.Comma old))) read
     ∙ ap (λ r. and_operands (Some o) (option_and_then (operands_of (drop (i + 1) kinds)) r)) comma)
     ∙ one_together found o (operands_of (drop (i + 1) kinds) new)
 
 -- no operand of its kind stands there
-pub read_none : (kinds : List OperandText) (i : ℕ) (kind : OperandText) (old : List Piece) (found : List Operand) → i + 1 < length kinds → get_or kinds i kind ≡ kind
-    → operand_of kind (before signs.Comma old) ≡ None
+pub read_none : (kinds : List OperandText) (i : ℕ) (d : OperandText) (old : List Piece) (found : List Operand) → i + 1 < length kinds
+    → operand_of (get_or kinds i d) (before signs.Comma old) ≡ None
     → together found (operands_of (drop i kinds) old) ≡ None
-read_none kinds i kind old found h e read =
-    ap (together found) (two_left kinds i kind old h e ∙ ap (λ r. and_operands r (option_and_then (operands_of (drop (i + 1) kinds)) (behind signs.Comma old))) read)
+read_none kinds i d old found h read =
+    ap (together found) (two_left kinds i d old h ∙ ap (λ r. and_operands r (option_and_then (operands_of (drop (i + 1) kinds)) (behind signs.Comma old))) read)
 
 -- no comma stands behind it
-pub read_no_comma : (kinds : List OperandText) (i : ℕ) (kind : OperandText) (old : List Piece) (found : List Operand) → i + 1 < length kinds → get_or kinds i kind ≡ kind
+pub read_no_comma : (kinds : List OperandText) (i : ℕ) (d : OperandText) (old : List Piece) (found : List Operand) → i + 1 < length kinds
     → behind signs.Comma old ≡ None
     → together found (operands_of (drop i kinds) old) ≡ None
-read_no_comma kinds i kind old found h e comma =
-    ap (together found) (two_left kinds i kind old h e
-    ∙ ap (λ r. and_operands (operand_of kind (before signs.Comma old)) (option_and_then (operands_of (drop (i + 1) kinds)) r)) comma
-    ∙ and_nothing (operand_of kind (before signs.Comma old)))
+read_no_comma kinds i d old found h comma =
+    ap (together found) (two_left kinds i d old h
+    ∙ ap (λ r. and_operands (operand_of (get_or kinds i d) (before signs.Comma old)) (option_and_then (operands_of (drop (i + 1) kinds)) r)) comma
+    ∙ and_nothing (operand_of (get_or kinds i d) (before signs.Comma old)))
 
 -- one kind is left
-pub one_left : (kinds : List OperandText) (i : ℕ) (kind : OperandText) (ps : List Piece) (found : List Operand) (o : Option Operand) → i + 1 ≡ length kinds → get_or kinds i kind ≡ kind
-    → operand_of kind ps ≡ o
+pub one_left : (kinds : List OperandText) (i : ℕ) (d : OperandText) (ps : List Piece) (found : List Operand) (o : Option Operand) → i + 1 ≡ length kinds
+    → operand_of (get_or kinds i d) ps ≡ o
     → together found (operands_of (drop i kinds) ps) ≡ together found (and_operands o (Some []))
-one_left kinds i kind ps found o h e read =
+one_left kinds i d ps found o h read =
     let within : i < length kinds = omega arith in
-    let past : length kinds ≡ i + 1 = sym h in
-    ap (together found) (at_drop_more (λ ks. operands_of ks ps) kinds i kind within
-    ∙ ap (λ k. operands_of (k ∷ drop (i + 1) kinds) ps) e
-    ∙ at_drop_all (λ ks. operands_of (kind ∷ ks) ps) kinds (i + 1) (omega arith)
+    let past : length kinds ≤ i + 1 = omega arith in
+    ap (together found) (at_drop_more (λ ks. operands_of ks ps) kinds i d within
+    ∙ at_drop_all (λ ks. operands_of (get_or kinds i d ∷ ks) ps) kinds (i + 1) past
     ∙ ap (λ r. and_operands r (Some [])) read)
