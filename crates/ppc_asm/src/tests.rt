@@ -1,4 +1,5 @@
 use super::*;
+use crate::lines::line_length;
 use AsmKind::{Form, Lex, Lines, NoSegment, Twice};
 use std::alloc::Global;
 use std::process::Abort;
@@ -10,15 +11,13 @@ fn fault(alloc: Global, source: &[u8]) -> Option<AsmFault> {
 }
 
 /// Fails unless each source's first fault is of this kind on this line.
-fn expect(
-    alloc: Global,
-    rt: &impl Abort,
-    line: u32,
-    kind: AsmKind,
-    sources: &[&str],
-) {
+fn expect(alloc: Global, rt: &impl Abort, line: u32, kind: AsmKind, sources: &[&str]) {
     for source in sources {
-        assert_eq!(rt; fault(alloc, source.as_bytes()), Some(AsmFault::At { line, kind }), "{source}");
+        assert_eq!(rt;
+            fault(alloc, source.as_bytes()),
+            Some(AsmFault::At { line, kind }),
+            "{source}"
+        );
     }
 }
 
@@ -39,7 +38,7 @@ fn a_line_that_is_none_of_the_language_is_named(rt: HostRuntime) {
         ".seg 0\nadd r32,r0,r0",
         ".seg 0\naddi. r1,r2,3",
         ".seg 0\nlwzu r3,8(0)",
-        ".seg 0\naddic 3,0,1",
+        ".seg 0\naddic r3,0,1",
         ".seg 0\nrfid 0",
         ".seg 0\n.word 2+-3",
         ".seg 0\nb e@l",
@@ -53,12 +52,12 @@ fn a_line_that_is_none_of_the_language_is_named(rt: HostRuntime) {
         ".seg 0\n.ascii \"a",
         ".seg 0\n.word 1;",
         ".seg 0\n\u{80}",
-        ".seg 0\nabcdefghijklmnopqrstuvwxyz_0123456:",
+        ".seg 0\nabcdefghijklmnopqrstuvwxyz_012345:",
     ];
     expect(rt.alloc(), &rt, 2, Lex, &tokens);
     expect(rt.alloc(), &rt, 1, Lex, &[".seg 0\r\n"]);
     let good = [
-        ".seg 0\nabcdefghijklmnopqrstuvwxyz_012345:",
+        ".seg 0\nabcdefghijklmnopqrstuvwxyz_01234:",
         ".seg 0\n.word 0x00000000000000001",
     ];
     expect_good(rt.alloc(), &rt, &good);
@@ -75,7 +74,13 @@ fn names_are_defined_once_and_bytes_stand_in_segments(rt: HostRuntime) {
         ".seg 0\n\ne: .equ e, 2",
     ];
     expect(rt.alloc(), &rt, 3, Twice, &twice);
-    expect(rt.alloc(), &rt, 4, Twice, &[".seg 0\ne: .word 1\n.entry e\n.entry e"]);
+    expect(
+        rt.alloc(),
+        &rt,
+        4,
+        Twice,
+        &[".seg 0\ne: .word 1\n.entry e\n.entry e"],
+    );
 }
 
 #[test]
@@ -114,5 +119,51 @@ fn a_source_has_at_most_65536_lines(rt: HostRuntime) -> Result<(), Fail> {
     assert_eq!(rt; fault(rt.alloc(), &source), Some(at(Lines)));
     source.push(b',')?;
     assert_eq!(rt; fault(rt.alloc(), &source), Some(at(Form)));
+    Ok(())
+}
+
+#[test]
+fn a_name_is_found_only_among_the_first_known(rt: HostRuntime) -> Result<(), Fail> {
+    let mut names = Names::new(rt.alloc());
+    names.define(b"start", 0x1_0000)?;
+    names.define(b"offset", -8)?;
+    assert_eq!(rt; names.len(), 2);
+    assert_eq!(rt; names.value(b"start", 2), Some(0x1_0000));
+    assert_eq!(rt; names.value(b"offset", 2), Some(-8));
+    assert_eq!(rt; names.value(b"start", 1), Some(0x1_0000));
+    assert_eq!(rt; names.value(b"offset", 1), None);
+    assert_eq!(rt; names.value(b"start", 0), None);
+    assert_eq!(rt; names.value(b"star", 2), None);
+    Ok(())
+}
+
+#[test]
+fn an_empty_line_stands_between_two_newlines(rt: HostRuntime) {
+    assert_eq!(rt; line_length(b"a\n\nb"), 1);
+    assert_eq!(rt; line_length(b"\nb"), 0);
+    assert_eq!(rt; line_length(b"b"), 1);
+}
+
+#[test]
+fn the_address_stands_behind_the_last_segment(rt: HostRuntime) -> Result<(), Fail> {
+    let mut segments = SegmentLines::new(rt.alloc());
+    assert_eq!(rt; segments.address(), None);
+    segments.push(SegmentLine {
+        line: 1,
+        base: 0x1000,
+        size: 4,
+    })?;
+    segments.push(SegmentLine {
+        line: 2,
+        base: u64::MAX,
+        size: 0,
+    })?;
+    assert_eq!(rt; segments.address(), Some(0xffff_ffff_ffff_ffff));
+    segments.grow(8);
+    assert_eq!(rt; segments.address(), Some(0x1_0000_0000_0000_0007));
+    assert_eq!(rt;
+        segments.as_slice().first().map(|segment| segment.size),
+        Some(4)
+    );
     Ok(())
 }
