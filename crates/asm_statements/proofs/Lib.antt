@@ -3,4 +3,5 @@ pub mod Fronts
 pub mod Joined
 pub mod Names
 pub mod Scanned
+pub mod Stated
 mod Terms

@@ -69,6 +69,7 @@ pub name_unknown : (i : ℕ) (word : List ℕ) → length rows ≤ i → name_am
 unfolding rows all_operations
 name_unknown i word e = name_nowhere operations i word e
 
+-- the name of all operations in proofs stands for the list of all
 pub name_found : (word : List ℕ) → name_among all_operations word ≡ mnemonic_of word
 unfolding all_operations
 name_found word = refl

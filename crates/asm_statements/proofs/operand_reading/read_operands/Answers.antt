@@ -7,7 +7,7 @@ use Rattle.asm_statements.specs.declared.piece.Sign.TheVariants as signs
 use Rattle.asm_statements.specs.declared.operand.Operand.{Operand}
 use Rattle.asm_statements.specs.Pieces.{before}
 use Rattle.asm_statements.specs.Operands.{operands_of}
-use Rattle.asm_statements.proofs.Joined.{together, kind_read, read_one, read_none, read_no_comma, one_left}
+use Rattle.asm_statements.proofs.Joined.{together, kind_read, read_one}
 use Rattle.asm_statements.proofs.operand_reading.read_operands.Goals as goal
 
 pub loop-kind-preserved : goal.loop-kind-preserved
