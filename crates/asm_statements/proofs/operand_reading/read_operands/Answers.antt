@@ -19,8 +19,9 @@ loop-kind-preserved c =
     let new = c.skip_past.new.self in
     let o = c.in_ok-read_operand.field-0 in
     let lt : i + 1 < length kinds = omega (arith, length-take (length kinds - 1) kinds) in
-    let read = kind_read kinds i d (before signs.Comma old) c.before_comma.result c.read_operand.result (Some o) (omega arith) c.read_operand.ensures c.before_comma.ensures c.in_ok-read_operand.was in
-    (c.loop-kind.invariant.0
-    ∙ read_one kinds i d old new c.loop-kind.found o lt read c.if-not-skip_past.ensures
-    ∙ ap (λ (found : List Operand). together found (operands_of (drop (i + 1) kinds) new)) (sym c.push.ensures),
-    ap length c.push.ensures ∙ length_push c.loop-kind.found o ∙ ap (λ n. n + 1) c.loop-kind.invariant.1)
+    let read = kind_read kinds i d (before signs.Comma old) c.before_comma.result c.read_operand.result (Some o) (omega arith) c.read_operand.ensures c.before_comma.ensures c.in_ok-read_operand.was in (
+      c.loop-kind.invariant.0
+          ∙ read_one kinds i d old new c.loop-kind.found o lt read c.if-not-skip_past.ensures
+          ∙ ap (λ (found : List Operand). together found (operands_of (drop (i + 1) kinds) new)) (sym c.push.ensures),
+      ap length c.push.ensures ∙ length_push c.loop-kind.found o ∙ ap (λ n. n + 1) c.loop-kind.invariant.1,
+    )
