@@ -1,7 +1,7 @@
 -- Operands that are read one by one.
-use Rattle.std.proofs.Common.{◌≡◌, ℕ, ◌+◌, ◌-◌, ◌<◌, ◌≤◌, List, [], ◌∷◌, ◌++◌, length, get_or, take, drop, Option, Some, None, refl, sym, ap, ◌∙◌, arith, append_assoc}
+use Rattle.std.proofs.Common.{◌≡◌, ℕ, ◌+◌, ◌-◌, ◌<◌, List, [], ◌∷◌, ◌++◌, length, get_or, take, drop, Option, Some, None, refl, sym, ap, ◌∙◌, arith, append_assoc}
 use Rattle.std.specs.Prelude.{option_and_then}
-use Rattle.std.proofs.lemmas.List.{drop_more, at_drop_more, at_drop_all, get_or-take}
+use Rattle.std.proofs.lemmas.List.{drop_more, at_drop_more, get_or-take}
 use Rattle.operand_texts.specs.declared.kinds.OperandText.{OperandText}
 use Rattle.asm_statements.specs.declared.piece.Sign.TheVariants as signs
 use Rattle.asm_statements.specs.declared.piece.Piece.{Piece}
