@@ -1,7 +1,7 @@
 -- Operands that are read one by one.
-use Rattle.std.proofs.Common.{◌≡◌, ℕ, ◌+◌, ◌-◌, ◌<◌, ◌≤◌, List, [], ◌∷◌, ◌++◌, length, get_or, take, drop, Option, Some, None, refl, sym, ap, ◌∙◌, arith, append_assoc}
+use Rattle.std.proofs.Common.{◌≡◌, ℕ, ◌+◌, ◌-◌, ◌<◌, List, [], ◌∷◌, ◌++◌, length, get_or, take, drop, Option, Some, None, refl, sym, ap, ◌∙◌, arith, append_assoc}
 use Rattle.std.specs.Prelude.{option_and_then}
-use Rattle.std.proofs.lemmas.List.{drop_more, at_drop_more, at_drop_all, get_or-take}
+use Rattle.std.proofs.lemmas.List.{drop_more, at_drop_more, get_or-take}
 use Rattle.operand_texts.specs.declared.kinds.OperandText.{OperandText}
 use Rattle.asm_statements.specs.declared.piece.Sign.TheVariants as signs
 use Rattle.asm_statements.specs.declared.piece.Piece.{Piece}
@@ -14,17 +14,9 @@ abbrev pub together : List Operand → Option (List Operand) → Option (List Op
 together found (Some os) = Some (found ++ os)
 together found None = None
 
-pub together_none : (os : Option (List Operand)) → together [] os ≡ os
-together_none (Some os) = refl
-together_none None = refl
-
 one_together : (found : List Operand) (o : Operand) (os : Option (List Operand)) → together found (and_operands (Some o) os) ≡ together (found ++ o ∷ []) os
 one_together found o (Some os) = ap Some (sym (append_assoc found (o ∷ []) os))
 one_together found o None = refl
-
-and_nothing : (o : Option Operand) → and_operands o None ≡ None
-and_nothing (Some o) = refl
-and_nothing None = refl
 
 -- a kind of the front that the loop goes over is one of all
 pub kind_read : (kinds : List OperandText) (i : ℕ) (d : OperandText) (ps qs : List Piece) (r o : Option Operand) → i < length kinds - 1
@@ -54,30 +46,3 @@ read_one kinds i d old new found o h read comma =
     ∙ ap (λ r. and_operands r (option_and_then (operands_of (drop (i + 1) kinds)) (behind signs.Comma old))) read
     ∙ ap (λ r. and_operands (Some o) (option_and_then (operands_of (drop (i + 1) kinds)) r)) comma)
     ∙ one_together found o (operands_of (drop (i + 1) kinds) new)
-
--- no operand of its kind stands there
-pub read_none : (kinds : List OperandText) (i : ℕ) (d : OperandText) (old : List Piece) (found : List Operand) → i + 1 < length kinds
-    → operand_of (get_or kinds i d) (before signs.Comma old) ≡ None
-    → together found (operands_of (drop i kinds) old) ≡ None
-read_none kinds i d old found h read =
-    ap (together found) (two_left kinds i d old h ∙ ap (λ r. and_operands r (option_and_then (operands_of (drop (i + 1) kinds)) (behind signs.Comma old))) read)
-
--- no comma stands behind it
-pub read_no_comma : (kinds : List OperandText) (i : ℕ) (d : OperandText) (old : List Piece) (found : List Operand) → i + 1 < length kinds
-    → behind signs.Comma old ≡ None
-    → together found (operands_of (drop i kinds) old) ≡ None
-read_no_comma kinds i d old found h comma =
-    ap (together found) (two_left kinds i d old h
-    ∙ ap (λ r. and_operands (operand_of (get_or kinds i d) (before signs.Comma old)) (option_and_then (operands_of (drop (i + 1) kinds)) r)) comma
-    ∙ and_nothing (operand_of (get_or kinds i d) (before signs.Comma old)))
-
--- one kind is left
-pub one_left : (kinds : List OperandText) (i : ℕ) (d : OperandText) (ps : List Piece) (found : List Operand) (o : Option Operand) → i + 1 ≡ length kinds
-    → operand_of (get_or kinds i d) ps ≡ o
-    → together found (operands_of (drop i kinds) ps) ≡ together found (and_operands o (Some []))
-one_left kinds i d ps found o h read =
-    let within : i < length kinds = omega arith in
-    let past : length kinds ≤ i + 1 = omega arith in
-    ap (together found) (at_drop_more (λ ks. operands_of ks ps) kinds i d within
-    ∙ at_drop_all (λ ks. operands_of (get_or kinds i d ∷ ks) ps) kinds (i + 1) past
-    ∙ ap (λ r. and_operands r (Some [])) read)

@@ -4,5 +4,6 @@ pub mod Fronts
 pub mod Joined
 pub mod Names
 pub mod Scanned
+pub mod Stated
 mod Terms
 pub mod Texts

@@ -1,5 +1,5 @@
 -- Fronts of words, byte by byte, and names among those of operations, one by one.
-use Rattle.std.proofs.Common.{◌≡◌, ℕ, ◌+◌, ◌<◌, ◌≤◌, List, [], ◌∷◌, length, get_or, drop, Option, Some, None, refl, sym, ap, ◌∙◌, arith, inl, inr}
+use Rattle.std.proofs.Common.{◌≡◌, ℕ, ◌+◌, ◌<◌, ◌≤◌, List, ◌∷◌, length, get_or, drop, Option, Some, None, refl, sym, ap, ◌∙◌, arith, inl, inr}
 use Rattle.std.specs.Prelude.{slice_get, option_map}
 use Rattle.std.proofs.lemmas.Bool.Decides.{nat_tests}
 use Rattle.std.proofs.lemmas.List.{at_drop_more, at_drop_all}
@@ -8,7 +8,7 @@ use Rattle.ppc_ops.specs.declared.op.Op.{Op}
 use Rattle.ppc_ops.specs.declared.op.Row.{Row}
 use Rattle.ppc_ops.specs.Table.{operations, op_row, rows}
 use Rattle.asm_statements.specs.declared.mnemonic.Mnemonic.{Mnemonic}
-use Rattle.asm_statements.specs.Mnemonics.{behind_front, as_name_of, first_of, name_among, mnemonic_of}
+use Rattle.asm_statements.specs.Mnemonics.{behind_front, as_name_of, first_of, name_among}
 use Rattle.asm_statements.specs.Mnemonics.{all_operations}
 
 -- a byte that is another one
