@@ -1,5 +1,5 @@
 -- How many tokens, pieces and terms bytes have at most.
-use Rattle.std.proofs.Common.{◌≡◌, ℕ, zero, suc, ◌+◌, ◌-◌, ◌*◌, ◌<◌, ◌≤◌, Bool, true, false, cond, List, [], ◌∷◌, length, Some, None, Ok, Err, Option, refl, ap, ◌∙◌, sym, subst, arith}
+use Rattle.std.proofs.Common.{ℕ, zero, suc, ◌+◌, ◌-◌, ◌*◌, ◌≤◌, Bool, true, false, cond, List, [], ◌∷◌, length, Some, None, Ok, Err, Option, arith}
 use Rattle.std.specs.Prelude.{Result}
 use Rattle.asm_lex.specs.declared.classes.Class.TheVariants as classes
 use Rattle.asm_lex.specs.declared.token.Token.{Token}
@@ -12,7 +12,7 @@ use Rattle.asm_statements.specs.declared.piece.Piece.{Piece}
 use Rattle.asm_statements.specs.declared.piece.Piece.TheVariants as kinds
 use Rattle.asm_statements.specs.declared.expression.Term.{Term}
 use Rattle.asm_statements.specs.Pieces.{piece_as, bytes_of, and_pieces, pieces_in, pieces_for, pieces_of, is_sign, before}
-use Rattle.asm_statements.specs.Expressions.{and_terms, joined, with_sign, terms_of, terms_from, atom_of, signed}
+use Rattle.asm_statements.specs.Expressions.{and_terms, joined, with_sign, terms_from, atom_of, signed}
 use Rattle.asm_statements.specs.Readings.{listed}
 use Rattle.asm_statements.specs.Cursors.{until}
 use Rattle.std.specs.Prelude.{option_map}

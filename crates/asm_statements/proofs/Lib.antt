@@ -1,6 +1,9 @@
 pub mod Counts
 pub mod Ends
 pub mod Fronts
+pub mod Joined
+pub mod Names
 pub mod Scanned
+pub mod Stated
 mod Terms
-mod Texts
+pub mod Texts

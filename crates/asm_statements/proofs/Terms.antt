@@ -1,5 +1,5 @@
 -- A term and what is left of an expression behind it.
-use Rattle.std.proofs.Common.{◌≡◌, Bool, true, false, List, ◌∷◌, Some, None, Option, refl, true≢false, sym}
+use Rattle.std.proofs.Common.{◌≡◌, true, List, ◌∷◌, Some, None, Option, refl, true≢false, sym}
 use Rattle.std.specs.Prelude.{is_some}
 use Rattle.asm_statements.specs.declared.expression.Term.{Term}
 use Rattle.asm_statements.specs.Expressions.{and_terms}

@@ -1,5 +1,5 @@
 -- Texts are parts of their line.
-use Rattle.std.proofs.Common.{◌≡◌, ℕ, zero, suc, ◌+◌, ◌-◌, ◌*◌, ◌<◌, ◌≤◌, Bool, true, false, cond, List, [], ◌∷◌, length, take, drop, Some, None, Ok, Err, Option, refl, ap, ◌∙◌, sym, subst, arith}
+use Rattle.std.proofs.Common.{◌≡◌, ℕ, ◌-◌, ◌≤◌, Bool, true, false, cond, List, [], ◌∷◌, length, take, drop, Some, None, Ok, Err, Option, subst, arith}
 use Rattle.std.proofs.lemmas.List.{length-take, length-drop}
 use Rattle.std.proofs.lemmas.Option.{none-some, same_Some}
 use Rattle.std.specs.Prelude.{Result, option_map, option_and_then}
@@ -23,7 +23,7 @@ use Rattle.asm_statements.specs.Expressions.{is_plain, terms_of}
 use Rattle.asm_statements.specs.Pieces.{without_quotes, piece_as, bytes_of, and_pieces, pieces_in, pieces_for, pieces_of, has_tokens, line_pieces}
 use Rattle.asm_statements.specs.Operands.{operands_of}
 use Rattle.asm_statements.specs.Mnemonics.{mnemonic_of}
-use Rattle.asm_statements.specs.Statements.{directive_of, name_in, text_in, definition_in, directive_in, instruction_in, statement_by, statement_of, line_with, with_statement, behind_label, line_of}
+use Rattle.asm_statements.specs.Statements.{directive_of, name_in, text_in, definition_in, directive_in, instruction_in, statement_by, statement_of, with_statement, behind_label, line_of}
 
 -- a text has at most so many bytes
 abbrev IsShort : ℕ → Piece → Type 0
@@ -78,7 +78,7 @@ in-short : (source : List ℕ) (ts : List Token) → AreShort (length source) (p
 in-short source [] = tt
 in-short source (t ∷ ts) =
     and-short (length source) (piece_as t.kind (bytes_of source t)) (pieces_in source ts)
-        (piece-short (length source) t.kind (bytes_of source t) (token-length source t)) (in-short source ts)
+    (piece-short (length source) t.kind (bytes_of source t) (token-length source t)) (in-short source ts)
 
 for-short : (source : List ℕ) (r : Result (List Token) LexFault) → AreShort (length source) (pieces_for source r)
 for-short source (Ok ts) = in-short source ts
@@ -163,4 +163,4 @@ found bytes pieces false e = absurd (none-some pieces e)
 pub texts-short : (bytes text : List ℕ) (pieces : List Piece) (line : Line) → line_pieces bytes ≡ Some pieces → line_of pieces ≡ Some line → line.statement ≡ Some (statements.Ascii text) → length text ≤ length bytes
 texts-short bytes text pieces line has is says =
     of-statement (length bytes) text line says
-        (subst (OfLine (length bytes)) is (line-short (length bytes) pieces (found bytes pieces (has_tokens bytes) has)))
+    (subst (OfLine (length bytes)) is (line-short (length bytes) pieces (found bytes pieces (has_tokens bytes) has)))

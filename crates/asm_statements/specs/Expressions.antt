@@ -1,5 +1,5 @@
 -- Expressions: terms joined by plus and minus.
-use Rattle.std.specs.Prelude.{◌≡◌, ℕ, ◌-◌, List, [], ◌∷◌, length, Bool, true, false, not, ◌&&◌, Option, Some, None, is_some, option_map, slice_get, ◌==◌, if◌then◌else◌}
+use Rattle.std.specs.Prelude.{ℕ, ◌-◌, List, [], ◌∷◌, length, Bool, true, false, not, ◌&&◌, Option, Some, None, option_map, slice_get, ◌==◌, if◌then◌else◌}
 use Rattle.asm_statements.specs.declared.piece.Sign.TheVariants as signs
 use Rattle.asm_statements.specs.declared.piece.Piece.{Piece}
 use Rattle.asm_statements.specs.declared.piece.Piece.TheVariants as pieces

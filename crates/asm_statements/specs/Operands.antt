@@ -1,5 +1,5 @@
 -- Operands as they stand in text.
-use Rattle.std.specs.Prelude.{◌≡◌, ℕ, zero, List, [], ◌∷◌, codes, Bool, true, false, Option, Some, None, option_map, option_and_then, ◌==◌, if◌then◌else◌}
+use Rattle.std.specs.Prelude.{ℕ, zero, List, [], ◌∷◌, codes, Bool, true, false, Option, Some, None, option_map, option_and_then, ◌==◌, if◌then◌else◌}
 use Rattle.std.specs.Str.{bytes_eq}
 use Rattle.number_text.specs.Number.{number_up_to}
 use Rattle.operand_texts.specs.declared.kinds.OperandText.{OperandText}
@@ -7,7 +7,6 @@ use Rattle.operand_texts.specs.declared.kinds.OperandText.TheVariants as texts
 use Rattle.asm_statements.specs.declared.piece.Sign.TheVariants as signs
 use Rattle.asm_statements.specs.declared.piece.Piece.{Piece}
 use Rattle.asm_statements.specs.declared.piece.Piece.TheVariants as pieces
-use Rattle.asm_statements.specs.declared.expression.Term.{Term}
 use Rattle.asm_statements.specs.declared.operand.Half.{Half}
 use Rattle.asm_statements.specs.declared.operand.Half.TheVariants as halves
 use Rattle.asm_statements.specs.declared.operand.Number.{Number}

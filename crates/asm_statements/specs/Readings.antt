@@ -1,5 +1,5 @@
 -- What is left of an expression, and what reading a term of it gives.
-use Rattle.std.specs.Prelude.{◌≡◌, List, [], ◌∷◌, Bool, Option, Some, None, is_some, true, false}
+use Rattle.std.specs.Prelude.{◌≡◌, List, [], Bool, Option, Some, None, is_some, true, false}
 use Rattle.asm_statements.specs.declared.piece.Piece.{Piece}
 use Rattle.asm_statements.specs.declared.expression.Atom.{Atom}
 use Rattle.asm_statements.specs.declared.expression.Term.{Term}

@@ -1,12 +1,11 @@
 -- Statements and lines.
-use Rattle.std.specs.Prelude.{◌≡◌, ℕ, List, [], ◌∷◌, codes, Option, Some, None, option_map, option_and_then, if◌then◌else◌}
+use Rattle.std.specs.Prelude.{ℕ, List, [], ◌∷◌, codes, Option, Some, None, option_map, option_and_then, if◌then◌else◌}
 use Rattle.std.specs.Str.{bytes_eq}
 use Rattle.operand_texts.specs.Operands.{operand_texts}
 use Rattle.asm_statements.specs.declared.piece.Sign.TheVariants as signs
 use Rattle.asm_statements.specs.declared.piece.Piece.{Piece}
 use Rattle.asm_statements.specs.declared.piece.Piece.TheVariants as pieces
 use Rattle.asm_statements.specs.declared.mnemonic.Mnemonic.{Mnemonic}
-use Rattle.asm_statements.specs.declared.operand.Operand.{Operand}
 use Rattle.asm_statements.specs.declared.statement.Directive.{Directive}
 use Rattle.asm_statements.specs.declared.statement.Directive.TheVariants as directives
 use Rattle.asm_statements.specs.declared.statement.Width.TheVariants as widths

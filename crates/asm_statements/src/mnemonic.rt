@@ -1,8 +1,7 @@
 //! Names of operations with their marks.
 
-ghost use Rattle.std.specs.Prelude.{◌≡◌, ◌<◌, length, option_and_then, drop};
-ghost use Rattle.ppc_ops.specs.Table.{operations};
-ghost use Rattle.asm_statements.specs.Mnemonics.{with_marks, takes_marks, behind_front, as_name_of, name_among, mnemonic_of};
+ghost use Rattle.std.specs.Prelude.{◌≡◌, ◌<◌, length, option_and_then, drop, slice_get};
+ghost use Rattle.asm_statements.specs.Mnemonics.{with_marks, takes_marks, behind_front, as_name_of, all_operations, mnemonic_of};
 
 use crate::spelling::Spelling;
 use operand_texts::{takes_absolute, takes_link, takes_overflow, takes_record};
@@ -89,13 +88,23 @@ fn as_name_of(op: Op, word: &[u8]) -> Option<Mnemonic>
     }
 }
 
+/// The operation of a row.
+fn operation(i: u16) -> Option<Op>
+    ensures { result ≡ slice_get all_operations i }
+{
+    match row(i) {
+        Some(row) => Some(row.op),
+        None => None,
+    }
+}
+
 /// The operation and the marks that a word names.
 pub(crate) fn mnemonic_of(word: &[u8]) -> Option<Mnemonic>
     ensures { result ≡ mnemonic_of word.now }
 {
     for i in 0..row_count() {
-        if let Some(row) = row(i) {
-            if let Some(mnemonic) = as_name_of(row.op, word) {
+        if let Some(op) = operation(i) {
+            if let Some(mnemonic) = as_name_of(op, word) {
                 return Some(mnemonic);
             }
         }

@@ -1,4 +1,5 @@
 use super::*;
+use ppc_ops::Op;
 use std::process::Abort;
 
 /// What a piece is, as a test compares it.
@@ -127,5 +128,149 @@ fn a_line_with_a_fault_has_no_pieces(rt: HostRuntime) {
         b"\x80",
     ] {
         assert!(&rt; Pieces::of_line(line).is_none());
+    }
+}
+
+fn is_line(line: &str) -> bool {
+    match Pieces::of_line(line.as_bytes()) {
+        Some(pieces) => read_line(pieces).is_some(),
+        None => false,
+    }
+}
+
+#[test]
+fn a_line_is_read_where_it_is_one_of_the_language(rt: HostRuntime) {
+    for line in [
+        "addic 3,0,1",
+        "add r32,r0,r0",
+        "addi. r1,r2,3",
+        "lwzu r3,8(0)",
+        "rfid 0",
+        ".word 2+-3",
+        "b e@l",
+        ".word e@l",
+        "foo.: .word 1",
+        "Add r1,r2,r3",
+        "nop",
+        "rfid rfid",
+        ".word 1 .word 2",
+        ".word 007",
+        ".word 0x",
+        "a: b: rfid",
+        ".equ 5,1",
+        ".entry",
+        ".ascii e",
+    ] {
+        assert!(rt; !is_line(line), "{line}");
+    }
+    for line in [
+        "addo. r1,r2,r3",
+        "addic. r1,r2,-3",
+        "lwz r3,8(0)",
+        "lwz r3,k@l(r4)",
+        "a: rfid",
+        "a:",
+        "",
+        ".equ a, .+8",
+        "cmpeqb 3,1,r4,r5",
+        "tlbie r4,r5,0,1,1",
+        "bla 0-4",
+        "bc 20,0,.-8",
+        "bclrl 20,0",
+        "stwcx. r3,0,r4",
+        ".align 8",
+        ".bedword -1",
+        "r5: .word r5",
+    ] {
+        assert!(rt; is_line(line), "{line}");
+    }
+}
+
+/// The statement of a line.
+fn statement<'a>(rt: &impl Abort, line: &'a [u8]) -> Statement<'a> {
+    let line = read_line(pieces(rt, line)).expect(rt, "the line is one of the language");
+    line.statement.expect(rt, "the line has a statement")
+}
+
+/// The mnemonic of a line with an instruction.
+fn mnemonic(rt: &impl Abort, line: &str) -> Option<Mnemonic> {
+    match statement(rt, line.as_bytes()) {
+        Statement::Instruction(mnemonic, _) => Some(mnemonic),
+        _ => None,
+    }
+}
+
+fn is_register(operand: &Operand, number: u8) -> bool {
+    match operand {
+        Operand::Register(own) => *own == number,
+        _ => false,
+    }
+}
+
+/// Whether an operand is this part of a name's value behind this register.
+fn is_part(operand: &Operand, half: Half, name: &[u8], register: u8) -> bool {
+    match operand {
+        Operand::Displacement(Number::Part(own, spelling), base) => {
+            *own == half && spelling.bytes() == name && *base == register
+        }
+        _ => false,
+    }
+}
+
+#[test]
+fn an_instruction_has_its_marks_and_its_operands(rt: HostRuntime) {
+    for (line, op, oe, rc, lk, aa) in [
+        ("add r1,r2,r3", Op::Add, false, false, false, false),
+        ("addo. r1,r2,r3", Op::Add, true, true, false, false),
+        ("addic. r1,r2,-3", Op::AddicDot, false, false, false, false),
+        ("stwcx. r3,0,r4", Op::StwcxDot, false, false, false, false),
+        ("bclrl 20,0", Op::Bclr, false, false, true, false),
+        ("bla 0-4", Op::B, false, false, true, true),
+    ] {
+        let wanted = Mnemonic { op, oe, rc, lk, aa };
+        assert_eq!(rt; mnemonic(&rt, line), Some(wanted), "{line}");
+    }
+    match statement(&rt, b"lwz r3,k@ha(r4)") {
+        Statement::Instruction(_, operands) => {
+            let read = operands.as_slice();
+            assert_eq!(rt; read.len(), 2);
+            assert!(rt; is_register(&read[0], 3));
+            assert!(rt; is_part(&read[1], Half::Adjusted, b"k", 4));
+        }
+        _ => assert!(rt; false, "an instruction"),
+    }
+}
+
+#[test]
+fn a_sum_has_its_terms_with_their_signs(rt: HostRuntime) {
+    match statement(&rt, b".word -a+.-3") {
+        Statement::Data(width, mut sum) => {
+            assert_eq!(rt; width, Width::Word);
+            match (sum.next(), sum.next(), sum.next(), sum.next()) {
+                (
+                    Some(
+                        Term {
+                            negative: true,
+                            atom: Atom::Name(name),
+                        },
+                    ),
+                    Some(
+                        Term {
+                            negative: false,
+                            atom: Atom::Here,
+                        },
+                    ),
+                    Some(
+                        Term {
+                            negative: true,
+                            atom: Atom::Number(3),
+                        },
+                    ),
+                    None,
+                ) => assert_eq!(rt; name.bytes(), b"a".as_slice()),
+                _ => assert!(rt; false, "a name, the place and a number"),
+            }
+        }
+        _ => assert!(rt; false, "a number"),
     }
 }

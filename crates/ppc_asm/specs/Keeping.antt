@@ -1,8 +1,10 @@
 -- How great the numbers of the first pass can get.
-use Rattle.std.specs.Prelude.{◌≡◌, ◌≤◌, ◌<◌, ℕ, ◌+◌, ◌-◌, ◌*◌, ◌^◌, List, [], ◌∷◌, map, length, false, ℤ, pos, negsuc}
+use Rattle.std.specs.Prelude.{◌≡◌, ◌≤◌, ◌<◌, ℕ, ◌+◌, ◌-◌, ◌*◌, ◌^◌, List, [], ◌∷◌, map, length, Option, Some, None, false, ℤ, pos, negsuc}
+use Rattle.asm_statements.specs.declared.line.Line.{Line}
 use Rattle.asm_statements.specs.declared.statement.Statement.{Statement}
 use Rattle.asm_statements.specs.declared.statement.Statement.TheVariants as statements
 use Rattle.ppc_asm.specs.Names.{Definition, defined, is_defined}
+use Rattle.ppc_asm.specs.FirstPass.{is_twice}
 use Rattle.ppc_asm.specs.Places.{most_zeros}
 use Rattle.ppc_asm.specs.declared.names.Names.TheInside.{Inside}
 use Rattle.ppc_asm.specs.declared.places.SegmentLine.{SegmentLine}
@@ -11,7 +13,7 @@ use Rattle.ppc_asm.specs.declared.places.Places.{Places}
 -- below 2^65, whatever the sign
 abbrev pub IsSmall : ℤ → Type 0
 IsSmall (pos n) = n < 2 ^ 65
-IsSmall (negsuc n) = n < 2 ^ 65
+IsSmall (negsuc n) = n + 1 < 2 ^ 65
 
 abbrev pub AreSmall : List Definition → Type 0
 AreSmall [] = Unit {0}
@@ -52,6 +54,16 @@ pub record AddsTo (statement : Statement) (p : Places) : Type 0 where
   pub zeros : p.zeros ≤ most_zeros
   pub sizes : HaveAtMost (2 ^ 64 - 1 - most_zeros - text_size statement) p.segments
   pub new : IsNew statement p
+
+abbrev pub optional_size : Option Statement → ℕ
+optional_size (Some statement) = text_size statement
+optional_size None = 0
+
+-- what adding a line asks of the places
+pub record CanAdd (line : Line) (p : Places) : Type 0 where
+  pub zeros : p.zeros ≤ most_zeros
+  pub sizes : HaveAtMost (2 ^ 64 - 1 - most_zeros - optional_size line.statement) p.segments
+  pub once : is_twice p line ≡ false
 
 -- there is room for the zeros and for a line of so many bytes
 pub record IsRoomy (bytes : ℕ) (p : Places) : Type 0 where

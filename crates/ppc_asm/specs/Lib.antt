@@ -1,3 +1,4 @@
+pub mod Adding
 pub mod FirstPass
 pub mod Keeping
 pub mod Lines

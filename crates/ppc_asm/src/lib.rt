@@ -14,3 +14,6 @@ pub use names::Names;
 pub use pass::first_pass;
 pub use places::{Places, SegmentLine};
 pub use segments::SegmentLines;
+
+#[cfg(test)]
+mod tests;

@@ -1,18 +1,19 @@
 //! The first pass over a source.
 
-ghost use Rattle.std.specs.Prelude.{◌≡◌, length};
+ghost use Rattle.std.specs.Prelude.{◌≡◌, length, OnOk};
 ghost use Rattle.ppc_asm.specs.FirstPass as said;
 ghost use Rattle.ppc_asm.specs.FirstPass.{Passes, AddsLine};
 ghost use Rattle.ppc_asm.specs.Names as defined;
 ghost use Rattle.ppc_asm.specs.Sums as sums;
-ghost use Rattle.ppc_asm.specs.Keeping.{IsRoomy};
+ghost use Rattle.ppc_asm.specs.Places.{after_line};
+ghost use Rattle.ppc_asm.specs.Keeping.{CanAdd, IsRoomy};
 
 use crate::fault::{AsmFault, AsmKind};
 use crate::lines::line_length;
 use crate::names::Names;
 use crate::places::Places;
 use asm_statements::{Atom, Expression, Line, Pieces, Spelling, Statement, read_line};
-use std::alloc::Global;
+use std::alloc::{AllocError, Global};
 
 /// The most lines of a source.
 const MOST_LINES: u32 = 65536;
@@ -108,33 +109,35 @@ fn fault_of<'a>(number: u32, places: &Places<'a>, line: &Line<'a>) -> Option<Asm
     None
 }
 
+/// Adds a line that has no fault.
+fn add_good<'a>(places: &mut Places<'a>, number: u32, line: Line<'a>) -> Result<(), AllocError>
+    requires { CanAdd line places.old }
+    ensures { OnOk result (places.new ≡ after_line number line.entry places.old) }
+{
+    let Line { label, statement } = line;
+    places.add_label(&label)?;
+    match statement {
+        Some(statement) => places.add_statement(number, statement),
+        None => Ok(()),
+    }
+}
+
 /// Adds a line, or says what is wrong with it.
 fn add_line<'a>(places: &mut Places<'a>, number: u32, bytes: &'a [u8]) -> Result<(), AsmFault>
     requires { IsRoomy (length bytes.now) places.old }
     ensures { AddsLine number bytes.now places.old places.new result }
 {
-    let pieces = match Pieces::of_line(bytes) {
-        Some(pieces) => pieces,
-        None => return Err(AsmFault::At {
-            line: number,
-            kind: AsmKind::Lex,
-        }),
+    let kind = match Pieces::of_line(bytes) {
+        Some(pieces) => match read_line(pieces) {
+            Some(line) => match fault_of(number, places, &line) {
+                Some(kind) => kind,
+                None => return Ok(add_good(places, number, line)?),
+            },
+            None => AsmKind::Form,
+        },
+        None => AsmKind::Lex,
     };
-    let line = match read_line(pieces) {
-        Some(line) => line,
-        None => return Err(AsmFault::At {
-            line: number,
-            kind: AsmKind::Form,
-        }),
-    };
-    if let Some(kind) = fault_of(number, places, &line) {
-        return Err(AsmFault::At { line: number, kind });
-    }
-    places.add_label(&line.label)?;
-    if let Some(statement) = line.statement {
-        places.add_statement(number, statement)?;
-    }
-    Ok(())
+    Err(AsmFault::At { line: number, kind })
 }
 
 /// Goes through the lines of a source once. Answers the names, the segments and the entry's name, or the first line that is

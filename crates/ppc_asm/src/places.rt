@@ -7,7 +7,7 @@ ghost use Rattle.ppc_asm.specs.Keeping.{IsSmall, HaveAtMost, AddsTo};
 
 use crate::names::Names;
 use crate::segments::SegmentLines;
-use crate::sum::{Sum, sum};
+use crate::sum::{Sum, worth_of};
 use asm_statements::{Expression, Spelling, Statement, Width};
 use std::alloc::{AllocError, Global};
 
@@ -143,7 +143,7 @@ impl<'a> Places<'a> {
         requires { said.here_of self.now < 2 ^ 65 }
         ensures { result ≡ said.worth self.now expression.entry }
     {
-        sum(
+        worth_of(
             expression,
             &self.names,
             self.names.len(),
@@ -193,7 +193,7 @@ impl<'a> Places<'a> {
         line: u32,
         statement: Statement<'a>,
     ) -> Result<(), AllocError>
-        requires { AddsTo statement.entry self.old }
+        requires { AddsTo statement self.old }
         ensures { OnOk result (self.new ≡ said.after_statement line statement.entry self.old) }
     {
         match statement {

@@ -1,7 +1,7 @@
 //! Lists of segments.
 
 ghost use Rattle.std.specs.Prelude.{◌≡◌, ◌∷◌, ◌++◌, ◌-◌, ◌^◌, [], OnOk};
-ghost use Rattle.ppc_asm.specs.Places.{grown, address_of};
+ghost use Rattle.ppc_asm.specs.Places.{grown, address_of, end_of};
 ghost use Rattle.ppc_asm.specs.Keeping.{HaveAtMost};
 
 use crate::places::SegmentLine;
@@ -66,8 +66,15 @@ impl SegmentLines {
         ensures { result ≡ address_of self.now }
     {
         match self.items.as_slice().last() {
-            Some(segment) => Some(u128::from(segment.base) + u128::from(segment.size)),
+            Some(segment) => Some(end(segment)),
             None => None,
         }
     }
+}
+
+// The address behind the segment's bytes.
+fn end(segment: &SegmentLine) -> u128
+    ensures { result ≡ end_of segment.now }
+{
+    u128::from(segment.base) + u128::from(segment.size)
 }

@@ -1,4 +1,4 @@
-use Rattle.std.proofs.Common.{◌≡◌, ◌≤◌, ◌+◌, ◌*◌, ℕ, length, subst, sym, arith}
+use Rattle.std.proofs.Common.{◌≤◌, ◌+◌, ◌*◌, length, subst, arith}
 use Rattle.asm_statements.specs.Readings.{listed}
 use Rattle.asm_statements.specs.Expressions.{terms_from}
 use Rattle.asm_statements.proofs.Counts.{terms-length}

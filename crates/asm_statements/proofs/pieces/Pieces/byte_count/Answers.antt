@@ -1,4 +1,4 @@
-use Rattle.std.proofs.Common.{◌≡◌, ◌≤◌, length, subst, sym}
+use Rattle.std.proofs.Common.{◌≤◌, length, subst}
 use Rattle.asm_statements.proofs.Counts.{left-length}
 use Rattle.asm_statements.proofs.pieces.Pieces.byte_count.Goals as goal
 
