@@ -5,4 +5,4 @@ pub mod Joined
 pub mod Names
 pub mod Scanned
 mod Terms
-mod Texts
+pub mod Texts
