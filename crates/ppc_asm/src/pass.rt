@@ -1,6 +1,6 @@
 //! The first pass over a source.
 
-ghost use Rattle.std.specs.Prelude.{◌≡◌, length, OnOk};
+ghost use Rattle.std.specs.Prelude.{◌≡◌, ◌≤◌, ◌+◌, length, drop, OnOk};
 ghost use Rattle.ppc_asm.specs.FirstPass as said;
 ghost use Rattle.ppc_asm.specs.FirstPass.{Passes, AddsLine};
 ghost use Rattle.ppc_asm.specs.Names as defined;
@@ -140,6 +140,18 @@ fn add_line<'a>(places: &mut Places<'a>, number: u32, bytes: &'a [u8]) -> Result
     Err(AsmFault::At { line: number, kind })
 }
 
+/// What stands behind a line of so many bytes, and behind its newline where there is one.
+fn behind_line(rest: &[u8], count: usize) -> &[u8]
+    requires { count ≤ length rest.now }
+    ensures { result.now ≡ drop (count + 1) rest.now }
+{
+    if count < rest.len() {
+        &rest[count + 1..]
+    } else {
+        &[]
+    }
+}
+
 /// Goes through the lines of a source once. Answers the names, the segments and the entry's name, or the first line that is
 /// wrong by itself or by those before it. `Memory` may come at any source, and says nothing of it.
 pub fn first_pass<'a>(alloc: Global, bytes: &'a [u8]) -> Result<Places<'a>, AsmFault>
@@ -152,11 +164,7 @@ pub fn first_pass<'a>(alloc: Global, bytes: &'a [u8]) -> Result<Places<'a>, AsmF
         number += 1;
         let length = line_length(rest);
         add_line(&mut places, number, &rest[..length])?;
-        rest = if length < rest.len() {
-            &rest[length + 1..]
-        } else {
-            &rest[length..]
-        };
+        rest = behind_line(rest, length);
     }
     Ok(places)
 }
