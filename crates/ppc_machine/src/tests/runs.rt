@@ -141,7 +141,10 @@ fn programs_end_at_devices_translation_and_alignment(rt: HostRuntime) -> Result<
         assert_eq!(rt; end, program.end);
         let counts = machine.journal().counts();
         assert_eq!(rt; (counts.steps, counts.devices), program.rows);
-        let row = machine.journal().step(program.rows.0 - 1).ok_or("row")?;
+        let row = machine
+            .journal()
+            .step(counts.steps.saturating_sub(1))
+            .ok_or("row")?;
         assert_eq!(rt; row.uses, program.uses);
         let thread = thread(&machine)?;
         assert_eq!(rt; (thread.nia(), thread.tb), program.nia);
