@@ -101,7 +101,11 @@ fn names_and_segments_have_the_values_of_their_lines(rt: HostRuntime) -> Result<
     let places = first_pass(rt.alloc(), b".seg 0\n.word 1\nx: .align 8\n.word x")?;
     assert_eq!(rt; places.names.value(b"x", 1), Some(4));
     assert_eq!(rt;
-        places.segments.as_slice().first().map(|segment| segment.size),
+        places
+            .segments
+            .as_slice()
+            .first()
+            .map(|segment| segment.size),
         Some(12)
     );
     let places = first_pass(rt.alloc(), b".seg 0\n.space n\n.equ n, 4\ne: .word 1")?;
