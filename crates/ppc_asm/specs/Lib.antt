@@ -1,7 +1,2 @@
-pub mod Adding
-pub mod FirstPass
-pub mod Keeping
-pub mod Lines
-pub mod Names
-pub mod Places
-pub mod Sums
+pub mod Filling
+pub mod Images

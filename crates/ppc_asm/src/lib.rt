@@ -1,19 +1,12 @@
-//! The assembler: the places and names of a source's lines, and the image that it means.
+//! The assembler: the image that a source means, or the first wrong line with what is wrong with it.
 #![tactic(auto)]
 
-mod fault;
-mod lines;
-mod names;
-mod pass;
-mod places;
-mod segments;
-mod sum;
+mod assemble;
+mod filling;
+mod second;
 
-pub use fault::{AsmFault, AsmKind};
-pub use names::Names;
-pub use pass::first_pass;
-pub use places::{Places, SegmentLine};
-pub use segments::SegmentLines;
+pub use asm_places::{AsmFault, AsmKind};
+pub use assemble::assemble;
 
 #[cfg(test)]
 mod tests;
