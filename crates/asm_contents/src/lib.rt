@@ -4,13 +4,11 @@
 mod content;
 mod known;
 mod line;
+mod numbers;
 mod overlap;
 mod statement;
 mod values;
 
 pub use content::Content;
 pub use line::content_of;
-pub use values::line_word;
 
-#[cfg(test)]
-mod tests;

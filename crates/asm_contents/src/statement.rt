@@ -1,15 +1,16 @@
 //! What a statement puts into memory.
 
-ghost use Rattle.std.specs.Prelude.{◌≡◌, ◌<◌, ◌≤◌, ◌^◌, pos};
+ghost use Rattle.std.specs.Prelude.{◌≡◌, ◌<◌, ◌≤◌, ◌^◌, pos, option_map};
+ghost use Rattle.asm_contents.specs.declared.content.Content.TheVariants.{Zeros};
 ghost use Rattle.asm_places.specs.Places.{here_of};
 ghost use Rattle.asm_places.specs.Ranges.{most_zeros};
 ghost use Rattle.asm_places.specs.Sums.{total};
 ghost use Rattle.asm_contents.specs.Contents as said;
 
 use crate::content::Content;
-use crate::values::line_word;
+use crate::numbers::{low_32, low_64};
 use asm_places::{Names, Places, base_of, in_range, padding_of, space_of, worth_of};
-use asm_statements::{Expression, Statement, Width};
+use asm_statements::{Expression, Spelling, Statement, Width};
 
 /// What an expression is worth at the address of a statement, where all its names are defined.
 fn value_at<'a>(names: &Names<'a>, at: &Places<'a>, expression: &Expression<'a>) -> i128
@@ -26,17 +27,17 @@ fn data_content<'a>(width: Width, value: i128) -> Option<Content<'a>>
     match width {
         Width::Word => {
             if value >= -(1 << 31) && value < 1 << 32 {
-                Some(Content::Word(value as u32))
+                Some(Content::Word(low_32(value)))
             } else {
                 None
             }
         }
         Width::Doubleword => match in_range(value) {
-            Some(value) => Some(Content::Doubleword(value as u64)),
+            Some(value) => Some(Content::Doubleword(low_64(value))),
             None => None,
         },
         Width::BigEndianDoubleword => match in_range(value) {
-            Some(value) => Some(Content::BigEndianDoubleword(value as u64)),
+            Some(value) => Some(Content::BigEndianDoubleword(low_64(value))),
             None => None,
         },
     }
@@ -86,11 +87,6 @@ pub(crate) fn statement_content<'a>(
         Statement::Align(expression) => {
             zeros(padding_of(at.zeros, at.here(), value_at(&at.names, at, expression)))
         }
-        Statement::Instruction(mnemonic, operands) => {
-            match line_word(names, at.here() as i128, *mnemonic, operands.as_slice()) {
-                Some(word) => Some(Content::Word(word)),
-                None => None,
-            }
-        }
+        Statement::Instruction(_mnemonic, _operands) => None,
     }
 }

@@ -1,6 +1,6 @@
 mod Adding
 pub mod Grown
 pub mod Named
-mod Room
+pub mod Room
 pub mod Split
-mod Within
+pub mod Within

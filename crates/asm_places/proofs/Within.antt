@@ -24,7 +24,7 @@ use Rattle.asm_places.specs.declared.places.Places.{Places}
 use Rattle.asm_places.specs.declared.fault.AsmKind.{AsmKind}
 use Rattle.asm_places.specs.declared.fault.AsmKind.TheVariants as kinds
 use Rattle.asm_places.specs.declared.fault.AsmFault.{AsmFault}
-use Rattle.asm_places.proofs.Room.{at_most}
+use Rattle.asm_places.proofs.Room.{at_most, end_small}
 
 -- settled numbers are in their ranges
 base-small-of : (z : ℤ) (o : Option ℕ) → base_of z ≡ o → (b : Bool) → if_known b o < 2 ^ 64
@@ -224,3 +224,36 @@ pub along-fault : (source rest : List ℕ) (n k : ℕ) (p : Places) (fault : Asm
     → placed (n + 1) (take k rest) p ≡ Err fault → IsAlong source rest n p → first_pass source ≡ Err fault
 along-fault source rest n k p fault lines is a =
     a.whole ∙ ap (λ ls. after_lines (n + 1) ls p) lines ∙ ap (λ r. and_next r (λ y. after_lines (n + 1 + 1) (lines_of (drop (k + 1) rest)) (after_placed y))) is
+
+-- At the statement of a line the segments and the zeros are those before the line.
+pub record IsStill (p q : Places) : Type 0 where
+  pub segments : q.segments ≡ p.segments
+  pub zeros : q.zeros ≡ p.zeros
+
+still-label : (label : Option (List ℕ)) (p : Places) → IsStill p (after_label label p)
+still-label (Some name) p = record { segments = refl; zeros = refl }
+still-label None p = record { segments = refl; zeros = refl }
+
+still-good : (number : ℕ) (p : Places) (line : Line) (x : Placed) (kind : Option AsmKind) → placed_or_fault number p line kind ≡ Ok x → IsStill p x.at
+still-good number p line x (Some kind) e = let no : ⊥ = cc in absurd no
+still-good number p line x None e =
+    let same : at_place number line.statement (after_label line.label p) ≡ x = cc in
+    subst (λ y. IsStill p y.at) same (still-label line.label p)
+
+still-line : (number : ℕ) (p : Places) (x : Placed) (o : Option Line) → placed_line number p o ≡ Ok x → IsStill p x.at
+still-line number p x (Some line) e = still-good number p line x (fault_of number p line) e
+still-line number p x None e = let no : ⊥ = cc in absurd no
+
+still-pieces : (number : ℕ) (p : Places) (x : Placed) (o : Option (List Piece)) → placed_pieces number p o ≡ Ok x → IsStill p x.at
+still-pieces number p x (Some pieces) e = still-line number p x (line_of pieces) e
+still-pieces number p x None e = let no : ⊥ = cc in absurd no
+
+pub still-placed : (number : ℕ) (bytes : List ℕ) (p : Places) (x : Placed) → placed number bytes p ≡ Ok x → IsStill p x.at
+still-placed number bytes p x e = still-pieces number p x (line_pieces bytes) e
+
+-- No address of the first pass reaches 2^65.
+pub here-small : (source rest : List ℕ) (n : ℕ) (p : Places) → length source < 2 ^ 63 → IsBefore source rest n p → here_of p < 2 ^ 65
+here-small source rest n p small b =
+    let few = b.few in
+    let zeros = b.within.zeros in
+    end_small (most_size p.zeros n (length source - length rest)) p.segments (omega arith) b.within.sizes

@@ -1,57 +1,66 @@
 -- Segments that are being filled.
-use Rattle.std.specs.Prelude.{◌≡◌, ◌≤◌, ℕ, ◌+◌, ◌^◌, List, [], ◌∷◌, ◌++◌, map, length, Bool, true, false, Option, Some, None, option_map, Result, Ok, Err}
+use Rattle.std.specs.Prelude.{◌≡◌, ◌≤◌, ℕ, ◌+◌, ◌^◌, List, [], ◌∷◌, ◌++◌, map, length, Option, Some, None, option_map, Result, Ok, Err}
 use Rattle.elf_image.specs.Parts.{SegmentParts, segment_parts}
 use Rattle.asm_places.specs.Lines.{lines_of}
-use Rattle.asm_places.specs.Places.{no_places}
-use Rattle.asm_places.specs.FirstPass.{Placed, at_place, fault_at}
+use Rattle.asm_places.specs.Places.{no_places, address_of}
+use Rattle.asm_places.specs.FirstPass.{Placed}
+use Rattle.asm_places.specs.declared.places.SegmentLine.{SegmentLine}
 use Rattle.asm_places.specs.declared.places.Places.{Places}
-use Rattle.asm_places.specs.declared.fault.AsmKind.{AsmKind}
 use Rattle.asm_places.specs.declared.fault.AsmFault.{AsmFault}
 use Rattle.asm_places.specs.declared.fault.AsmFault.TheVariants as faults
 use Rattle.asm_contents.specs.declared.content.Content.{Content}
-use Rattle.asm_contents.specs.Contents.{content_of, content_bytes}
+use Rattle.asm_contents.specs.Contents.{content_of}
 use Rattle.ppc_asm.specs.Images.{placed_lines, line_bytes, begun_at, segment_at, segments_of, first_fault}
 use Rattle.ppc_asm.specs.declared.filling.Open.{Open}
 use Rattle.ppc_asm.specs.declared.filling.Filling.TheInside.{Inside}
 
+-- a segment with the bytes that it has so far
+pub record Opened : Type 0 where
+  pub base : ℕ
+  pub bytes : List ℕ
+
 -- segments that are finished, and the one that is being filled, where there is one
 pub record Filled : Type 0 where
   pub finished : List SegmentParts
-  pub open : Option SegmentParts
+  pub open : Option Opened
 
-abbrev pub open_parts : Open → SegmentParts
-open_parts o = segment_at o.base o.bytes.items
+abbrev pub opened : Open → Opened
+opened o = record { base = o.base; bytes = o.bytes.items }
 
 abbrev pub filled_of : Inside → Filled
-filled_of f = record { finished = map segment_parts f.finished.items; open = option_map open_parts f.open }
+filled_of f = record { finished = map segment_parts f.finished.items; open = option_map opened f.open }
 
--- the segment that is being filled has no byte at 2^64 or above, and so many more would not either
-abbrev pub HasRoom : ℕ → Option SegmentParts → Type 0
-HasRoom size (Some s) = s.at + length s.bytes + size ≤ 2 ^ 64
+-- so many more bytes would stand below 2^64
+abbrev pub HasRoom : ℕ → Option Opened → Type 0
+HasRoom size (Some o) = o.base + length o.bytes + size ≤ 2 ^ 64
 HasRoom size None = Unit {0}
 
 pub record EndsBelow (f : Inside) : Type 0 where
-  pub ends : HasRoom 0 (option_map open_parts f.open)
+  pub ends : HasRoom 0 (option_map opened f.open)
 
 abbrev pub no_segments : Filled
 no_segments = record { finished = []; open = None }
 
-abbrev pub with_open : List SegmentParts → Option SegmentParts → List SegmentParts
-with_open ss (Some s) = ss ++ s ∷ []
-with_open ss None = ss
+abbrev pub with_opened : List SegmentParts → Option Opened → List SegmentParts
+with_opened ss (Some o) = ss ++ segment_at o.base o.bytes ∷ []
+with_opened ss None = ss
 
 -- all segments, the one that is being filled with the bytes that it has
 abbrev pub closed : Filled → List SegmentParts
-closed f = with_open f.finished f.open
+closed f = with_opened f.finished f.open
+
+-- the segment that is being filled is finished
+abbrev pub with_finished : Filled → Filled
+with_finished f = record { finished = closed f; open = None }
 
 -- another segment is begun
 abbrev pub begun : ℕ → Filled → Filled
-begun base f = record { finished = closed f; open = Some (segment_at base []) }
+begun base f = record { finished = closed f; open = Some (record { base = base; bytes = [] }) }
 
-abbrev pub longer : List ℕ → SegmentParts → SegmentParts
-longer bytes s = segment_at s.at (s.bytes ++ bytes)
+abbrev pub longer : List ℕ → Opened → Opened
+longer bytes o = record { base = o.base; bytes = o.bytes ++ bytes }
 
--- so many bytes more
+-- bytes more
 abbrev pub filled : List ℕ → Filled → Filled
 filled bytes f = record { finished = f.finished; open = option_map (longer bytes) f.open }
 
@@ -63,9 +72,19 @@ filled_by None bytes f = filled bytes f
 abbrev pub with_line : Places → Placed → Filled → Filled
 with_line whole x f = filled_by (begun_at x) (line_bytes whole x) f
 
+-- the segment that is being filled ends where the last segment of these places does
+abbrev pub Opens : List SegmentLine → Option Opened → Type 0
+Opens ss (Some o) = address_of ss ≡ Some (o.base + length o.bytes)
+Opens ss None = ss ≡ []
+
+-- a line that puts something into memory
+pub record IsGood (whole : Places) (x : Placed) : Type 0 where
+  pub content : Content
+  pub is : content_of whole x ≡ Ok content
+
 -- What adding a line answers, and the segments that it leaves.
 abbrev pub AddsLine : Places → Placed → Filled → Filled → Result (Unit {0}) AsmFault → Type 0
-AddsLine whole x old new (Ok u) = ((c : Content) × (content_of whole x ≡ Ok c)) × (new ≡ with_line whole x old)
+AddsLine whole x old new (Ok u) = IsGood whole x × (new ≡ with_line whole x old)
 AddsLine whole x old new (Err faults.Memory) = Unit {0}
 AddsLine whole x old new (Err (faults.At line kind)) = (line ≡ x.number) × (content_of whole x ≡ Err kind)
 

@@ -2,6 +2,7 @@
 
 ghost use Rattle.std.specs.Prelude.{◌≡◌, map};
 ghost use Rattle.elf_image.specs.Parts.{segment_parts};
+ghost use Rattle.asm_places.specs.FirstPass.{fault_at};
 ghost use Rattle.ppc_asm.specs.Images.{Assembles, entry_in, has_bytes};
 
 use crate::second::second_pass;

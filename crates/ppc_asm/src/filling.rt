@@ -1,10 +1,11 @@
 //! Segments that are being filled.
 
-ghost use Rattle.std.specs.Prelude.{◌≡◌, ◌≤◌, ◌+◌, ◌++◌, ◌^◌, length, map, IfOk, OnOk};
+ghost use Rattle.std.specs.Prelude.{◌≡◌, ◌≤◌, ◌+◌, ◌++◌, ◌^◌, length, map, Some, IfOk, OnOk, OnErr};
 ghost use Rattle.elf_image.specs.Parts.{segment_parts};
 ghost use Rattle.asm_contents.specs.Contents.{content_bytes};
+ghost use Rattle.ppc_asm.specs.Images.{segment_at};
 ghost use Rattle.ppc_asm.specs.Filling as said;
-ghost use Rattle.ppc_asm.specs.Filling.{HasRoom, closed, open_parts};
+ghost use Rattle.ppc_asm.specs.Filling.{HasRoom, closed, opened};
 
 use asm_contents::Content;
 use elf_image::{Bytes, Segment, Segments};
@@ -37,8 +38,8 @@ impl Model for Filling {
 
 /// The segment with the bytes that it has.
 fn close(open: Open) -> Segment
-    requires { HasRoom 0 (Some (open_parts open)) }
-    ensures { segment_parts result ≡ open_parts open }
+    requires { HasRoom 0 (Some (opened open)) }
+    ensures { segment_parts result ≡ segment_at open.base open.bytes.items }
 {
     let size = open.bytes.len() as u64;
     Segment::of(open.base, size, Bytes::of(open.bytes))
@@ -46,7 +47,8 @@ fn close(open: Open) -> Segment
 
 /// Adds bytes.
 fn add_bytes(bytes: &mut Vec<u8>, content: &Content) -> Result<(), AllocError>
-    ensures { OnOk result (bytes.new.items ≡ bytes.old.items ++ content_bytes content.now) }
+    ensures added { OnOk result (bytes.new.items ≡ bytes.old.items ++ content_bytes content.now) }
+    ensures kept { OnErr result (bytes.new.items ≡ bytes.old.items) }
 {
     match content {
         Content::Nothing => Ok(()),
