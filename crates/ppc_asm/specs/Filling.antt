@@ -11,61 +11,61 @@ use Rattle.asm_places.specs.declared.fault.AsmFault.TheVariants as faults
 use Rattle.asm_contents.specs.declared.content.Content.{Content}
 use Rattle.asm_contents.specs.Contents.{content_of}
 use Rattle.ppc_asm.specs.Images.{placed_lines, line_bytes, begun_at, segment_at, segments_of, first_fault}
-use Rattle.ppc_asm.specs.declared.filling.Open.{Open}
+use Rattle.ppc_asm.specs.declared.filling.Unfinished.{Unfinished}
 use Rattle.ppc_asm.specs.declared.filling.Filling.TheInside.{Inside}
 
 -- a segment with the bytes that it has so far
-pub record Opened : Type 0 where
+pub record Part : Type 0 where
   pub base : ℕ
   pub bytes : List ℕ
 
 -- segments that are finished, and the one that is being filled, where there is one
 pub record Filled : Type 0 where
   pub finished : List SegmentParts
-  pub open : Option Opened
+  pub last : Option Part
 
-abbrev pub opened : Open → Opened
-opened o = record { base = o.base; bytes = o.bytes.items }
+abbrev pub part_of : Unfinished → Part
+part_of o = record { base = o.base; bytes = o.bytes.items }
 
 abbrev pub filled_of : Inside → Filled
-filled_of f = record { finished = map segment_parts f.finished.items; open = option_map opened f.open }
+filled_of f = record { finished = map segment_parts f.finished.items; last = option_map part_of f.last }
 
 -- so many more bytes would stand below 2^64
-abbrev pub HasRoom : ℕ → Option Opened → Type 0
+abbrev pub HasRoom : ℕ → Option Part → Type 0
 HasRoom size (Some o) = o.base + length o.bytes + size ≤ 2 ^ 64
 HasRoom size None = Unit {0}
 
 pub record EndsBelow (f : Inside) : Type 0 where
-  pub ends : HasRoom 0 (option_map opened f.open)
+  pub ends : HasRoom 0 (option_map part_of f.last)
 
 abbrev pub no_segments : Filled
-no_segments = record { finished = []; open = None }
+no_segments = record { finished = []; last = None }
 
-abbrev pub with_opened : List SegmentParts → Option Opened → List SegmentParts
-with_opened ss (Some o) = ss ++ segment_at o.base o.bytes ∷ []
-with_opened ss None = ss
+abbrev pub with_last : List SegmentParts → Option Part → List SegmentParts
+with_last ss (Some o) = ss ++ segment_at o.base o.bytes ∷ []
+with_last ss None = ss
 
 -- all segments, the one that is being filled with the bytes that it has
 abbrev pub closed : Filled → List SegmentParts
-closed f = with_opened f.finished f.open
+closed f = with_last f.finished f.last
 
 -- the segment that is being filled is finished
 abbrev pub with_finished : Filled → Filled
-with_finished f = record { finished = closed f; open = None }
+with_finished f = record { finished = closed f; last = None }
 
 -- another segment is begun
-abbrev pub begun : ℕ → Filled → Filled
-begun base f = record { finished = closed f; open = Some (record { base = base; bytes = [] }) }
+abbrev pub with_segment : ℕ → Filled → Filled
+with_segment base f = record { finished = closed f; last = Some (record { base = base; bytes = [] }) }
 
-abbrev pub longer : List ℕ → Opened → Opened
+abbrev pub longer : List ℕ → Part → Part
 longer bytes o = record { base = o.base; bytes = o.bytes ++ bytes }
 
 -- bytes more
 abbrev pub filled : List ℕ → Filled → Filled
-filled bytes f = record { finished = f.finished; open = option_map (longer bytes) f.open }
+filled bytes f = record { finished = f.finished; last = option_map (longer bytes) f.last }
 
 abbrev pub filled_by : Option ℕ → List ℕ → Filled → Filled
-filled_by (Some base) bytes f = begun base f
+filled_by (Some base) bytes f = with_segment base f
 filled_by None bytes f = filled bytes f
 
 -- a line more
@@ -73,9 +73,9 @@ abbrev pub with_line : Places → Placed → Filled → Filled
 with_line whole x f = filled_by (begun_at x) (line_bytes whole x) f
 
 -- the segment that is being filled ends where the last segment of these places does
-abbrev pub Opens : List SegmentLine → Option Opened → Type 0
-Opens ss (Some o) = address_of ss ≡ Some (o.base + length o.bytes)
-Opens ss None = ss ≡ []
+abbrev pub EndsAlike : List SegmentLine → Option Part → Type 0
+EndsAlike ss (Some o) = address_of ss ≡ Some (o.base + length o.bytes)
+EndsAlike ss None = ss ≡ []
 
 -- a line that puts something into memory
 pub record IsGood (whole : Places) (x : Placed) : Type 0 where

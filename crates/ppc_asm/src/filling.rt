@@ -5,7 +5,7 @@ ghost use Rattle.elf_image.specs.Parts.{segment_parts};
 ghost use Rattle.asm_contents.specs.Contents.{content_bytes};
 ghost use Rattle.ppc_asm.specs.Images.{segment_at};
 ghost use Rattle.ppc_asm.specs.Filling as said;
-ghost use Rattle.ppc_asm.specs.Filling.{HasRoom, closed, opened};
+ghost use Rattle.ppc_asm.specs.Filling.{HasRoom, closed, part_of};
 
 use asm_contents::Content;
 use elf_image::{Bytes, Segment, Segments};
@@ -14,7 +14,7 @@ use std::marker::Model;
 
 /// A segment with the bytes that it has so far.
 #[derive(Debug, Drop)]
-struct Open {
+struct Unfinished {
     base: u64,
     bytes: Vec<u8>,
 }
@@ -23,7 +23,7 @@ struct Open {
 #[derive(Debug, Drop)]
 pub(crate) struct Filling {
     finished: Vec<Segment>,
-    open: Option<Open>,
+    last: Option<Unfinished>,
 }
 
 impl Model for Filling {
@@ -37,12 +37,12 @@ impl Model for Filling {
 }
 
 /// The segment with the bytes that it has.
-fn close(open: Open) -> Segment
-    requires { HasRoom 0 (Some (opened open)) }
-    ensures { segment_parts result ≡ segment_at open.base open.bytes.items }
+fn close(segment: Unfinished) -> Segment
+    requires { HasRoom 0 (Some (part_of segment)) }
+    ensures { segment_parts result ≡ segment_at segment.base segment.bytes.items }
 {
-    let size = open.bytes.len() as u64;
-    Segment::of(open.base, size, Bytes::of(open.bytes))
+    let size = segment.bytes.len() as u64;
+    Segment::of(segment.base, size, Bytes::of(segment.bytes))
 }
 
 /// Adds bytes.
@@ -67,16 +67,16 @@ impl Filling {
     {
         Filling {
             finished: Vec::new(alloc),
-            open: None,
+            last: None,
         }
     }
 
     /// Finishes the segment that is being filled, where there is one.
-    fn finish_open(&mut self) -> Result<(), AllocError>
+    fn finish_last(&mut self) -> Result<(), AllocError>
         ensures { OnOk result (self.new ≡ said.with_finished self.old) }
     {
-        match self.open.take() {
-            Some(open) => match self.finished.push(close(open)) {
+        match self.last.take() {
+            Some(segment) => match self.finished.push(close(segment)) {
                 Ok(()) => Ok(()),
                 Err(_failed) => Err(AllocError),
             },
@@ -86,21 +86,21 @@ impl Filling {
 
     /// Begins another segment, which will have so many bytes.
     pub(crate) fn begin(&mut self, alloc: Global, base: u64, size: usize) -> Result<(), AllocError>
-        ensures { OnOk result (self.new ≡ said.begun base self.old) }
+        ensures { OnOk result (self.new ≡ said.with_segment base self.old) }
     {
-        self.finish_open()?;
+        self.finish_last()?;
         let bytes = Vec::with_capacity(alloc, size)?;
-        self.open = Some(Open { base, bytes });
+        self.last = Some(Unfinished { base, bytes });
         Ok(())
     }
 
     /// Adds bytes to the segment that is being filled, where there is one.
     pub(crate) fn add(&mut self, content: &Content) -> Result<(), AllocError>
-        requires { HasRoom (length (content_bytes content.now)) self.old.open }
+        requires { HasRoom (length (content_bytes content.now)) self.old.last }
         ensures { OnOk result (self.new ≡ said.filled (content_bytes content.now) self.old) }
     {
-        match &mut self.open {
-            Some(open) => add_bytes(&mut open.bytes, content),
+        match &mut self.last {
+            Some(segment) => add_bytes(&mut segment.bytes, content),
             None => Ok(()),
         }
     }
@@ -110,7 +110,7 @@ impl Filling {
         ensures { IfOk result (λ segments. map segment_parts segments ≡ closed self) }
     {
         let mut filling = self;
-        filling.finish_open()?;
+        filling.finish_last()?;
         Ok(Segments::of(filling.finished))
     }
 }

@@ -1,12 +1,11 @@
 //! The assembler: the image that a source means, or the first wrong line with what is wrong with it.
 #![tactic(auto)]
 
-mod assemble;
+
 mod filling;
+mod image;
 mod second;
 
 pub use asm_places::{AsmFault, AsmKind};
-pub use assemble::assemble;
+pub use image::assemble;
 
-#[cfg(test)]
-mod tests;

@@ -4,7 +4,7 @@ ghost use Rattle.std.specs.Prelude.{◌≡◌, ◌<◌, ◌≤◌, ◌^◌, Ok, 
 ghost use Rattle.asm_places.specs.FirstPass.{first_pass, at_place};
 ghost use Rattle.asm_places.specs.Places.{here_of};
 ghost use Rattle.asm_places.specs.Ranges.{most_zeros};
-ghost use Rattle.ppc_asm.specs.Filling.{AddsLine, Fills, Opens};
+ghost use Rattle.ppc_asm.specs.Filling.{AddsLine, Fills, EndsAlike, HasRoom};
 
 use crate::filling::Filling;
 use asm_contents::content_of;
@@ -31,7 +31,8 @@ fn add_line<'a>(
 ) -> Result<(), AsmFault>
     requires here { here_of at.now < 2 ^ 65 }
     requires zeros { at.now.zeros ≤ most_zeros }
-    requires opens { Opens at.now.segments filling.old.open }
+    requires ends { EndsAlike at.now.segments filling.old.last }
+    requires below { HasRoom 0 filling.old.last }
     ensures { AddsLine whole.now (at_place number statement.now at.now) filling.old filling.new result }
 {
     match content_of(whole, at, statement) {
