@@ -1,13 +1,12 @@
 """Writes the files of `asm_forms` that say which form the values of a layout's operands in text make."""
 
-from operand_fields import import_lines, snake
+from operand_fields import SINGLE_LINE, import_lines, snake, used_classes
 from operand_texts import MARKS, is_displacement, read_operand
 
 FORMS = "crates/asm_forms"
 FIXED = "fixed_point"
 OTHERS = "other_units"
 FIRST_OF_OTHERS = "TrapImm"  # the first layout whose function stands in the second file
-SINGLE_LINE = 50  # the layout of Rust breaks a longer `if` with an `else`
 
 
 def fields_in_order(operands):
@@ -34,18 +33,25 @@ def check_places(layout):
         assert all(name in zeros for name in left_out), layout.name
 
 
-def width_of(field, op):
+def other_width(field):
+    """The width of a number's field in the operations of its class."""
+    return field.other.width() if field.other else 0
+
+
+def width_of(field):
     """The width of a number's field, in the words of the specs."""
     if not field.where:
         return str(field.reading.width())
-    return f"(if {field.where} {op} then {field.other.width() if field.other else 0} else {field.reading.width()})"
+    return f"(if {field.where} m.op then {other_width(field)} else {field.reading.width()})"
 
 
-def spec_of_field(layout, field):
-    """What a field takes of the values, in the words of the specs."""
-    if field.name in MARKS:
-        return f"Some m.{field.name}"
-    return f"{spec_of_reading(field)} (value_at vs {place_of(layout, field)})"
+def spec_of_layout(layout):
+    """The form of a layout, in the words of the specs."""
+    values = [f"{spec_of_reading(f)} (value_at vs {place_of(layout, f)}) >>= λ {f.name}. " for f in layout.fields if f.name not in MARKS]
+    parts = ["m.op"] if layout.has_op else []
+    parts += [f"m.{f.name}" if f.name in MARKS else f.name for f in layout.fields]
+    insn = " ".join([f"insn.{layout.name}"] + parts)
+    return f"{''.join(values)}Some {f'({insn})' if parts else insn}"
 
 
 def spec_of_reading(field):
@@ -54,7 +60,7 @@ def spec_of_reading(field):
     if field.type == "bool":
         return f"flag_unless ({field.where} m.op)" if field.where else "flag"
     if not reading.signed:
-        return f"number_of {width_of(field, 'm.op')}"
+        return f"number_of {width_of(field)}"
     if reading.zeros:
         return f"signed_multiple {reading.width()}"
     assert reading.width() == 16, field.name
@@ -78,7 +84,7 @@ def form_spec(table):
         "use Rattle.asm_statements.specs.declared.mnemonic.Mnemonic.{Mnemonic}",
         "use Rattle.asm_statements.specs.Mnemonics.{marked}",
         "use Rattle.asm_forms.specs.Values.{"
-        + "value_at, number_of, signed_number, signed_multiple, displacement, compared, flag, flag_unless, ◌<*>◌}",
+        + "value_at, number_of, signed_number, signed_multiple, displacement, compared, flag, flag_unless, ◌>>=◌}",
         "",
         "-- an operation without marks",
         "abbrev pub unmarked : Op → Mnemonic",
@@ -87,16 +93,8 @@ def form_spec(table):
         "-- the form of this layout, with the value of each field in the place where the field stands in text",
         "abbrev pub form_by : Layout → Mnemonic → List ℤ → Option Insn",
     ]
-    for layout in table.layouts:
-        start = f"(insn.{layout.name} m.op)" if layout.has_op else f"insn.{layout.name}"
-        parts = [f"Some {start}"] + [spec_of_field(layout, field) for field in layout.fields]
-        lines.append(f"form_by layout.{layout.name} m vs = {' <*> '.join(parts)}")
+    lines += [f"form_by layout.{layout.name} m vs = {spec_of_layout(layout)}" for layout in table.layouts]
     return lines
-
-
-def used_classes(table):
-    """The classes that a field's reading cites."""
-    return sorted({f.where for layout in table.layouts for f in layout.fields if f.where})
 
 
 def code_of_width(field):
@@ -131,8 +129,7 @@ def width_lines(layout):
     lines = []
     for field in layout.fields:
         if field.type == "u8" and field.where:
-            other = field.other.width() if field.other else 0
-            whole = f"if {field.where}(mnemonic.op) {{ {other} }} else {{ {field.reading.width()} }}"
+            whole = f"if {field.where}(mnemonic.op) {{ {other_width(field)} }} else {{ {field.reading.width()} }}"
             assert len(whole) <= SINGLE_LINE, whole
             lines.append(f"    let {field.name}_bits = {whole};")
     return lines
@@ -236,7 +233,7 @@ def value_files(table):
     fixed, others = table.layouts[:first], table.layouts[first:]
     return {
         f"{FORMS}/specs/Layouts.antt": form_spec(table),
-        f"{FORMS}/src/form.rt": form_file(table, fixed, others),
+        f"{FORMS}/src/forms.rt": form_file(table, fixed, others),
         f"{FORMS}/src/{FIXED}.rt": functions_file("Forms of fixed-point operations.", fixed),
         f"{FORMS}/src/{OTHERS}.rt": functions_file("Forms of traps, branches, accesses and operations of the system.", others),
     }

@@ -3,11 +3,11 @@ use Rattle.std.specs.Prelude.{ℕ, ◌-◌, ◌^◌, ◌==◌, nat_lt, ℤ, pos,
 use Rattle.ppc_bits.specs.Bits.{modulo}
 
 -- the value at a place, counted from 0, or 0 where no more values stand
-abbrev pub value_at : List ℤ → ℕ → ℤ
+unfoldable pub value_at : List ℤ → ℕ → ℤ
 value_at vs place = unwrap_or (slice_get vs place) (pos 0)
 
 -- a number of k bits
-abbrev pub number_of : ℕ → ℤ → Option ℕ
+unfoldable pub number_of : ℕ → ℤ → Option ℕ
 number_of k (pos n) = if nat_lt n (2 ^ k) then Some n else None
 number_of k (negsuc n) = None
 
@@ -17,23 +17,23 @@ is_signed k (pos n) = nat_lt n (2 ^ (k - 1))
 is_signed k (negsuc n) = nat_lt n (2 ^ (k - 1))
 
 -- a signed number of k bits
-abbrev pub signed_number : ℕ → ℤ → Option ℤ
+unfoldable pub signed_number : ℕ → ℤ → Option ℤ
 signed_number k z = if is_signed k z then Some z else None
 
 -- a signed number of k bits that is a multiple of 4
-abbrev pub signed_multiple : ℕ → ℤ → Option ℤ
+unfoldable pub signed_multiple : ℕ → ℤ → Option ℤ
 signed_multiple k z = if is_signed k z && modulo 2 z == 0 then Some z else None
 
 -- a displacement of 16 bits, where it is scaled a multiple of 4
-abbrev pub displacement : Bool → ℤ → Option ℤ
+unfoldable pub displacement : Bool → ℤ → Option ℤ
 displacement scaled z = if scaled then signed_multiple 16 z else signed_number 16 z
 
 -- an immediate of 16 bits, signed or not, that is compared
-abbrev pub compared : Bool → ℤ → Option ℤ
+unfoldable pub compared : Bool → ℤ → Option ℤ
 compared unsigned z = if unsigned then option_map pos (number_of 16 z) else signed_number 16 z
 
 -- false for 0, and true for 1
-abbrev pub flag : ℤ → Option Bool
+unfoldable pub flag : ℤ → Option Bool
 flag (pos n) = if n == 0 then Some false else if n == 1 then Some true else None
 flag (negsuc n) = None
 
@@ -41,12 +41,11 @@ abbrev pub false_where : Bool → Bool → Option Bool
 false_where never b = if never && b then None else Some b
 
 -- false for 0, and true for 1 unless it is never true
-abbrev pub flag_unless : Bool → ℤ → Option Bool
+unfoldable pub flag_unless : Bool → ℤ → Option Bool
 flag_unless never z = option_and_then (false_where never) (flag z)
 
--- the value of a function, where both it and its argument are there
-infixl 10 ◌<*>◌
-abbrev pub ◌<*>◌ : {A B : Type 0} → Option (A → B) → Option A → Option B
-(Some f) <*> (Some a) = Some (f a)
-(Some f) <*> None = None
-None <*> a = None
+-- what the function makes of the value, where it is there
+infixl 10 ◌>>=◌
+abbrev pub ◌>>=◌ : {A B : Type 0} → Option A → (A → Option B) → Option B
+(Some a) >>= f = f a
+None >>= f = None

@@ -2,13 +2,13 @@
 #![tactic(auto)]
 
 mod fixed_point;
-mod form;
+mod forms;
 mod other_units;
 mod values;
-mod word;
+mod words;
 
 pub use values::Values;
-pub use word::word;
+pub use words::word;
 
 #[cfg(test)]
 mod tests;

@@ -56,6 +56,7 @@ impl Values {
     }
 
     /// The value at a place, or 0 where no more values stand.
+    #[tactic(auto, unfolding(crate::specs::Values::value_at))]
     fn at(&self, place: usize) -> i128
         ensures { result ≡ values.value_at self.now place }
     {
@@ -63,6 +64,7 @@ impl Values {
     }
 
     /// The number of at most 16 bits at a place.
+    #[tactic(auto, unfolding(crate::specs::Values::number_of))]
     pub(crate) fn half(&self, place: usize, bits: u8) -> Option<u16>
         requires { bits ≤ 16 }
         ensures value { result ≡ values.number_of bits (values.value_at self.now place) }
@@ -87,6 +89,7 @@ impl Values {
     }
 
     /// The signed number of 16 bits at a place.
+    #[tactic(auto, unfolding(crate::specs::Values::signed_number))]
     pub(crate) fn signed(&self, place: usize) -> Option<i16>
         ensures value { result ≡ values.signed_number 16 (values.value_at self.now place) }
         ensures fits { IfSome result (λ z. IsSigned 16 z) }
@@ -100,6 +103,7 @@ impl Values {
     }
 
     /// The displacement of 16 bits at a place, where it is scaled a multiple of 4.
+    #[tactic(auto, unfolding(crate::specs::Values::displacement, crate::specs::Values::signed_number, crate::specs::Values::signed_multiple))]
     pub(crate) fn displacement(&self, place: usize, scaled: bool) -> Option<i16>
         ensures value { result ≡ values.displacement scaled (values.value_at self.now place) }
         ensures fits { IfSome result (λ z. IsDisplacement scaled z) }
@@ -113,6 +117,7 @@ impl Values {
     }
 
     /// The number of 16 bits at a place, signed or not.
+    #[tactic(auto, unfolding(crate::specs::Values::compared))]
     pub(crate) fn compared(&self, place: usize, unsigned: bool) -> Option<i32>
         ensures value { result ≡ values.compared unsigned (values.value_at self.now place) }
         ensures fits { IfSome result (λ z. IsCompared unsigned z) }
@@ -125,6 +130,7 @@ impl Values {
     }
 
     /// The distance of a branch at a place: a signed number of 16 bits that is a multiple of 4.
+    #[tactic(auto, unfolding(crate::specs::Values::signed_multiple))]
     pub(crate) fn branch_distance(&self, place: usize) -> Option<i32>
         ensures value { result ≡ values.signed_multiple 16 (values.value_at self.now place) }
         ensures fits { IfSome result (λ z. IsSignedMultiple 16 z) }
@@ -138,6 +144,7 @@ impl Values {
     }
 
     /// The distance of a jump at a place: a signed number of 26 bits that is a multiple of 4.
+    #[tactic(auto, unfolding(crate::specs::Values::signed_multiple))]
     pub(crate) fn jump_distance(&self, place: usize) -> Option<i32>
         ensures value { result ≡ values.signed_multiple 26 (values.value_at self.now place) }
         ensures fits { IfSome result (λ z. IsSignedMultiple 26 z) }
@@ -151,6 +158,7 @@ impl Values {
     }
 
     /// Whether the value at a place is 1; nothing where it is neither 0 nor 1.
+    #[tactic(auto, unfolding(crate::specs::Values::flag))]
     pub(crate) fn flag(&self, place: usize) -> Option<bool>
         ensures { result ≡ values.flag (values.value_at self.now place) }
     {
@@ -162,6 +170,7 @@ impl Values {
     }
 
     /// Whether the value at a place is 1, which it is never where `never` says so.
+    #[tactic(auto, unfolding(crate::specs::Values::flag_unless))]
     pub(crate) fn flag_unless(&self, place: usize, never: bool) -> Option<bool>
         ensures value { result ≡ values.flag_unless never (values.value_at self.now place) }
         ensures fits { IfSome result (λ b. (never && b) ≡ false) }

@@ -3,7 +3,7 @@
 ghost use Rattle.std.specs.Prelude.{◌≡◌};
 ghost use Rattle.asm_forms.specs.Words.{word_of};
 
-use crate::form::form;
+use crate::forms::form;
 use crate::values::Values;
 use asm_statements::Mnemonic;
 use ppc_decode::encode;
