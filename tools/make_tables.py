@@ -1,6 +1,6 @@
 #!/usr/bin/env python3
-"""Writes the files of `ppc_ops`, `word_decoder`, `ppc_decode`, `storage_ops` and `operand_texts` that repeat the table of
-docs/INSTRUCTIONS.md.
+"""Writes the files of `ppc_ops`, `word_decoder`, `ppc_decode`, `storage_ops`, `operand_texts` and `asm_forms` that repeat the
+table of docs/INSTRUCTIONS.md.
 
 With `--check` it writes nothing, and fails where a file is not what the table gives.
 """
@@ -14,6 +14,7 @@ from instruction_table import PRIMARY, read_table
 from opcode_branches import branch_files
 from operand_fields import operand_files, pattern_lines
 from operand_texts import text_files
+from operand_values import value_files
 from round_trip import round_trip_files
 from word_fields import word_files
 
@@ -292,6 +293,7 @@ def all_files(table):
     files.update(round_trip_files(table))
     files.update(access_files(table))
     files.update(text_files(table))
+    files.update(value_files(table))
     return files
 
 
