@@ -18,7 +18,7 @@ use Rattle.asm_places.specs.declared.fault.AsmKind.{AsmKind}
 use Rattle.asm_places.specs.declared.fault.AsmKind.TheVariants as kinds
 use Rattle.asm_contents.specs.declared.content.Content.{Content}
 use Rattle.asm_contents.specs.declared.content.Content.TheVariants as contents
-use Rattle.asm_contents.specs.Values.{are_known}
+use Rattle.asm_contents.specs.Values.{line_word, are_known}
 
 -- the bytes of what a line puts into memory
 abbrev pub content_bytes : Content → List ℕ
@@ -63,7 +63,7 @@ statement_content names p (statements.Data width e) = data_content width (total 
 statement_content names p (statements.Ascii text) = Some (contents.Text text)
 statement_content names p (statements.Space e) = option_map contents.Zeros (space_of p.zeros (total p.names (pos (here_of p)) e))
 statement_content names p (statements.Align e) = option_map contents.Zeros (padding_of p.zeros (here_of p) (total p.names (pos (here_of p)) e))
-statement_content names p (statements.Instruction mnemonic operands) = None
+statement_content names p (statements.Instruction mnemonic operands) = option_map contents.Word (line_word names (pos (here_of p)) mnemonic operands)
 
 -- all names of a statement are defined, those of a .seg, .equ, .space or .align before it
 abbrev pub is_known : List Definition → Places → Statement → Bool

@@ -15,6 +15,7 @@ use Rattle.asm_statements.specs.declared.operand.Operand.TheVariants as operands
 use Rattle.asm_places.specs.Names.{Definition, value_of, is_defined}
 use Rattle.asm_places.specs.Sums.{or_zero, total, all_known}
 use Rattle.asm_places.specs.Ranges.{in_range}
+use Rattle.asm_forms.specs.Words.{word_of}
 
 -- 16 bits of a value modulo 2^64: bits 48 to 63; bits 32 to 47; and bits 32 to 47 plus bit 48
 abbrev pub bits_of : Half → ℕ → ℕ
@@ -78,6 +79,10 @@ abbrev pub all_values : List Definition → ℤ → Bool → List OperandText �
 all_values names here absolute [] os = Some []
 all_values names here absolute (t ∷ ts) [] = Some []
 all_values names here absolute (t ∷ ts) (o ∷ os) = and_values (operand_values names here absolute t o) (all_values names here absolute ts os)
+
+-- the word of an instruction at an address; nothing where a value is out of range, or the operands are an invalid form
+abbrev pub line_word : List Definition → ℤ → Mnemonic → List Operand → Option ℕ
+line_word names here m os = option_and_then (word_of m) (all_values names here m.aa (operand_texts m.op) os)
 
 -- all names of a number are defined
 abbrev pub is_number_known : List Definition → Number → Bool

@@ -11,4 +11,7 @@ mod values;
 
 pub use content::Content;
 pub use line::content_of;
+pub use values::line_word;
+
+
 

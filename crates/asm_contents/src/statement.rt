@@ -9,6 +9,7 @@ ghost use Rattle.asm_contents.specs.Contents as said;
 
 use crate::content::Content;
 use crate::numbers::{low_32, low_64};
+use crate::values::line_word;
 use asm_places::{Names, Places, base_of, in_range, padding_of, space_of, worth_of};
 use asm_statements::{Expression, Spelling, Statement, Width};
 
@@ -87,6 +88,11 @@ pub(crate) fn statement_content<'a>(
         Statement::Align(expression) => {
             zeros(padding_of(at.zeros, at.here(), value_at(&at.names, at, expression)))
         }
-        Statement::Instruction(_mnemonic, _operands) => None,
+        Statement::Instruction(mnemonic, operands) => {
+            match line_word(names, at.here() as i128, *mnemonic, operands.as_slice()) {
+                Some(word) => Some(Content::Word(word)),
+                None => None,
+            }
+        }
     }
 }

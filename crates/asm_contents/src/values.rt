@@ -7,10 +7,11 @@ ghost use Rattle.asm_places.specs.Sums.{total};
 ghost use Rattle.asm_contents.specs.Adding.{AddsValues};
 ghost use Rattle.asm_contents.specs.Values as said;
 
+use asm_forms::{Values, word};
 use crate::numbers::low_64;
 use asm_places::{Names, in_range, worth_of};
 use asm_statements::{Expression, Half, Mnemonic, Number, Operand};
-use operand_texts::OperandText;
+use operand_texts::{OperandText, operands};
 
 /// What an expression is worth at an address, where all its names are defined.
 fn total_of<'a>(names: &Names<'a>, here: i128, expression: &Expression<'a>) -> i128
@@ -106,4 +107,71 @@ fn target_worth<'a>(
     } else {
         Some(as_signed(low_64(target).wrapping_sub(low_64(here))))
     }
+}
+
+/// Adds the values of an operand: of a displacement it and then its register, of any other one. Answers `None` where a value is
+/// out of range.
+fn add_operand<'a>(
+    values: &mut Values,
+    names: &Names<'a>,
+    here: i128,
+    absolute: bool,
+    text: OperandText,
+    operand: &Operand<'a>,
+) -> Option<()>
+    requires small { IsSmall here }
+    requires room { length values.old + 2 ≤ 10 }
+    ensures { AddsValues (said.operand_values names.now here absolute text operand.now) values.old values.new result }
+{
+    match operand {
+        Operand::Register(register) => values.push(i128::from(*register)),
+        Operand::Number(number) => {
+            values.push(number_worth(names, here, is_signed_text(text), number)?)
+        }
+        Operand::Displacement(number, register) => {
+            values.push(number_worth(names, here, true, number)?);
+            values.push(i128::from(*register));
+        }
+        Operand::Target(expression) => {
+            values.push(target_worth(names, here, absolute, expression)?)
+        }
+    }
+    Some(())
+}
+
+/// The values of operands, in their order, or `None` where one is out of range.
+fn all_values<'a>(
+    names: &Names<'a>,
+    here: i128,
+    absolute: bool,
+    texts: &[OperandText],
+    given: &[Operand<'a>],
+) -> Option<Values>
+    requires small { IsSmall here }
+    requires few { length texts.now ≤ 5 }
+    ensures { result ≡ said.all_values names.now here absolute texts.now given.now }
+{
+    let mut values = Values::new();
+    for (i, text) in texts.iter().enumerate() {
+        if i >= given.len() {
+            return Some(values);
+        }
+        add_operand(&mut values, names, here, absolute, *text, &given[i])?;
+    }
+    Some(values)
+}
+
+/// The word of an instruction at an address, where all names of its operands are defined, or `None` where a value is out of range
+/// or the operands are an invalid form.
+pub fn line_word<'a>(
+    names: &Names<'a>,
+    here: i128,
+    mnemonic: Mnemonic,
+    given: &[Operand<'a>],
+) -> Option<u32>
+    requires { IsSmall here }
+    ensures { result ≡ said.line_word names.now here mnemonic given.now }
+{
+    let values = all_values(names, here, mnemonic.aa, operands(mnemonic.op), given)?;
+    word(mnemonic, &values)
 }
