@@ -23,6 +23,7 @@ use Rattle.asm_places.specs.declared.fault.AsmKind.TheVariants as kinds
 use Rattle.asm_contents.specs.declared.content.Content.{Content}
 use Rattle.asm_contents.specs.declared.content.Content.TheVariants as contents
 use Rattle.asm_contents.specs.Contents.{content_bytes, fits_word, word_content, doubleword_content, big_endian_content, data_content, nothing_where, statement_content, is_known, ends_below, begun_kind, unless_kind, in_place, statement_or_kind, content_or_kind, content_of}
+use Rattle.asm_contents.specs.Values.{line_word}
 use Rattle.ppc_asm.specs.Images.{begun_by, line_bytes, bytes_where, begun_at}
 use Rattle.ppc_asm.specs.Filling.{Part, Filled, HasRoom, longer, filled_by, closed, with_segment, filled, EndsAlike, with_line, IsGood}
 
@@ -137,10 +138,8 @@ ends-statement number whole p (statements.Align e) c f s h =
     let z = total p.names (pos (here_of p)) e in
     ends-bytes f c (if_known (all_known p.names e) (padding_of p.zeros (here_of p) z)) p.segments
     (zeros-length (all_known p.names e) (padding_of p.zeros (here_of p) z) c s.known s.content) h
-ends-statement number whole p (statements.Instruction mnemonic operands) c f s h = ends-bytes f c 4 p.segments (instruction-length mnemonic operands s.content) h
-  where
-    instruction-length : (m : Mnemonic) (os : List Operand) → statement_content whole.names p (statements.Instruction m os) ≡ Some c → 4 ≡ length (content_bytes c)
-    instruction-length m os e = let no : ⊥ = cc in absurd no
+ends-statement number whole p (statements.Instruction mnemonic operands) c f s h =
+    ends-bytes f c 4 p.segments (word-length (line_word whole.names (pos (here_of p)) mnemonic operands) c s.content) h
 
 ends-optional : (number : ℕ) (whole p : Places) (o : Option Statement) (c : Content) (f : Filled) → content_or_kind whole p o ≡ Ok c → EndsAlike p.segments f.last
     → EndsAlike (after_optional number o p).segments (filled_by (begun_by o p) (content_bytes c) f).last
