@@ -33,13 +33,13 @@ fn expect_bytes(alloc: Global, rt: &impl Abort, source: &str, wanted: &[u8]) -> 
 
 /// Fails unless the line, alone in a segment at 0, is this word.
 fn expect_word(alloc: Global, rt: &impl Abort, line: &str, word: u32) -> Result<(), Fail> {
-    let source = format!(alloc; ".equ k, 0x12348678/.seg 0/e: {line}/.entry e")?;
+    let source = format!(in alloc; ".equ k, 0x12348678/.seg 0/e: {line}/.entry e")?;
     expect_bytes(alloc, rt, &source, &word.to_le_bytes())
 }
 
 /// Fails unless the line, alone in a segment at 0, is out of range.
 fn expect_out_of_range(alloc: Global, rt: &impl Abort, line: &str) -> Result<(), Fail> {
-    let source = format!(alloc; ".equ k, 0x12348678/.seg 0/e: {line}/.entry e")?;
+    let source = format!(in alloc; ".equ k, 0x12348678/.seg 0/e: {line}/.entry e")?;
     expect_fault(alloc, rt, 3, Range, &[&source]);
     Ok(())
 }
@@ -50,7 +50,7 @@ fn the_first_program_is_assembled(rt: HostRuntime) -> Result<(), Fail> {
     let image = image(rt.alloc(), source)?;
     assert_eq!(rt; image.entry, 0x10000);
     assert_eq!(rt; image.segments.len(), 1);
-    assert_eq!(rt; write_elf(&image)?.len(), 132);
+    assert_eq!(rt; write_elf(rt.alloc(), &image)?.len(), 132);
     let wanted = [1, 0, 0x60, 0x38, 0x14, 0x1a, 0x83, 0x7c, 0, 0, 0, 0x48];
     expect_bytes(rt.alloc(), &rt, source, &wanted)
 }
@@ -74,17 +74,36 @@ fn the_first_wrong_line_decides_and_on_it_the_first_kind(rt: HostRuntime) {
         ".seg 0xfffffffffffffffc/e: .dword 1/.entry e",
     ];
     expect_fault(rt.alloc(), &rt, 2, Range, &out_of_range);
-    let first_line = [".seg -1", ".seg 18446744073709551615+1", ".equ a, -9223372036854775809"];
+    let first_line = [
+        ".seg -1",
+        ".seg 18446744073709551615+1",
+        ".equ a, -9223372036854775809",
+    ];
     expect_fault(rt.alloc(), &rt, 1, Range, &first_line);
-    expect_fault(rt.alloc(), &rt, 3, AsmKind::Form, &[".seg 0/addi r3,0,65536/addi"]);
+    expect_fault(
+        rt.alloc(),
+        &rt,
+        3,
+        AsmKind::Form,
+        &[".seg 0/addi r3,0,65536/addi"],
+    );
 }
 
 #[test]
 fn segments_meet_by_their_whole_lengths(rt: HostRuntime) -> Result<(), Fail> {
-    expect_fault(rt.alloc(), &rt, 3, Overlap, &[".seg 0x1000/.word 1/.seg 0x1002/.word 2/.entry a"]);
+    expect_fault(
+        rt.alloc(),
+        &rt,
+        3,
+        Overlap,
+        &[".seg 0x1000/.word 1/.seg 0x1002/.word 2/.entry a"],
+    );
     let fifth_is_empty = ".seg 0/.word 1/.seg 4/.word 2/.seg 2/.seg 0/.word 9/.entry x";
     expect_fault(rt.alloc(), &rt, 6, Overlap, &[fifth_is_empty]);
-    let image = image(rt.alloc(), ".seg 4/.word 1/.seg 0/e: .word 2/.seg 8/.word 3/.entry e")?;
+    let image = image(
+        rt.alloc(),
+        ".seg 4/.word 1/.seg 0/e: .word 2/.seg 8/.word 3/.entry e",
+    )?;
     assert_eq!(rt; image.segments.len(), 3);
     Ok(())
 }
@@ -93,9 +112,9 @@ fn segments_meet_by_their_whole_lengths(rt: HostRuntime) -> Result<(), Fail> {
 fn a_source_has_at_most_64_segments(rt: HostRuntime) -> Result<(), Fail> {
     let mut source = String::new(rt.alloc());
     for i in 0..64 {
-        source.push_str(&format!(rt.alloc(); ".seg {}/.word {i}/", 8 * i)?)?;
+        source.push_str(&format!(in rt.alloc(); ".seg {}/.word {i}/", 8 * i)?)?;
     }
-    let mut good = source.clone(rt.alloc())?;
+    let mut good = source.clone()?;
     good.push_str(".equ e, 8/.entry e")?;
     assert_eq!(rt; image(rt.alloc(), &good)?.segments.len(), 64);
     source.push_str(".seg 512/.word 64")?;
@@ -117,8 +136,20 @@ fn a_source_has_an_entry_and_a_byte(rt: HostRuntime) -> Result<(), Fail> {
     let image = image(rt.alloc(), ".seg 0/.seg 0/e: .word 1/.entry e")?;
     let sizes = image.segments.as_slice().iter().map(|segment| segment.size);
     assert_eq!(rt; sizes.sum::<u64>(), 4);
-    assert_eq!(rt; image.segments.as_slice().first().map(|segment| segment.size), Some(0));
-    expect_bytes(rt.alloc(), &rt, ".seg 0xfffffffffffffffc/e: .word 1/.entry e", &[1, 0, 0, 0])
+    assert_eq!(rt;
+        image
+            .segments
+            .as_slice()
+            .first()
+            .map(|segment| segment.size),
+        Some(0)
+    );
+    expect_bytes(
+        rt.alloc(),
+        &rt,
+        ".seg 0xfffffffffffffffc/e: .word 1/.entry e",
+        &[1, 0, 0, 0],
+    )
 }
 
 #[test]
@@ -134,7 +165,9 @@ fn numbers_texts_and_zeros_stand_as_they_are_written(rt: HostRuntime) -> Result<
         expect_out_of_range(rt.alloc(), &rt, line)?;
     }
     let source = ".seg 0/e: .dword -9223372036854775808/.bedword 1/.ascii \"ab\"/.space 3/.entry e";
-    let wanted = [0, 0, 0, 0, 0, 0, 0, 0x80, 0, 0, 0, 0, 0, 0, 0, 1, b'a', b'b', 0, 0, 0];
+    let wanted = [
+        0, 0, 0, 0, 0, 0, 0, 0x80, 0, 0, 0, 0, 0, 0, 0, 1, b'a', b'b', 0, 0, 0,
+    ];
     expect_bytes(rt.alloc(), &rt, source, &wanted)?;
     let aligned = ".seg 1/e: .align 4/.word 7/.entry e";
     expect_bytes(rt.alloc(), &rt, aligned, &[0, 0, 0, 7, 0, 0, 0])?;
@@ -157,7 +190,12 @@ fn branches_reach_their_targets(rt: HostRuntime) -> Result<(), Fail> {
     ] {
         expect_word(rt.alloc(), &rt, line, word)?;
     }
-    for line in ["b 0x2000000", "b .+2", "ba 0xffffffffffffffff+1", "bc 20,0,.+32768"] {
+    for line in [
+        "b 0x2000000",
+        "b .+2",
+        "ba 0xffffffffffffffff+1",
+        "bc 20,0,.+32768",
+    ] {
         expect_out_of_range(rt.alloc(), &rt, line)?;
     }
     Ok(())
@@ -211,5 +249,10 @@ fn operands_stand_in_their_fields(rt: HostRuntime) -> Result<(), Fail> {
         expect_out_of_range(rt.alloc(), &rt, line)?;
     }
     let name_like_a_register = ".seg 0/e: addi r3,0,r5/r5: .word 1/.entry e";
-    expect_bytes(rt.alloc(), &rt, name_like_a_register, &[4, 0, 0x60, 0x38, 1, 0, 0, 0])
+    expect_bytes(
+        rt.alloc(),
+        &rt,
+        name_like_a_register,
+        &[4, 0, 0x60, 0x38, 1, 0, 0, 0],
+    )
 }

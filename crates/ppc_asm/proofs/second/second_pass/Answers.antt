@@ -30,7 +30,7 @@ loop-rest-preserved c =
     let x = at_place (c.loop-rest.number + 1) c.in_ok-statement.statement c.place_line.new.places in
     let added = c.in_ok-add_line.ensures in
     let next = filled-next c.args.bytes.now c.loop-rest.rest.now c.args.whole.now c.loop-rest.places c.loop-rest.number c.line_length-length.result x c.loop-rest.filling
-            c.line_length-length.ensures.within c.line_length-length.ensures.line c.in_ok-statement.ensures.line added.0 c.loop-rest.invariant in
+    c.line_length-length.ensures.within c.line_length-length.ensures.line c.in_ok-statement.ensures.line added.0 c.loop-rest.invariant in
     subst (λ p. IsFilled c.args.bytes.now c.behind_line-rest.result.now c.args.whole.now p (c.loop-rest.number + 1) c.add_line.new.filling) (sym c.in_ok-add_optional.ensures)
     (subst (λ rest. IsFilled c.args.bytes.now rest c.args.whole.now (after_placed x) (c.loop-rest.number + 1) c.add_line.new.filling) (sym c.behind_line-rest.ensures)
     (subst (λ f. IsFilled c.args.bytes.now (drop (c.line_length-length.result + 1) c.loop-rest.rest.now) c.args.whole.now (after_placed x) (c.loop-rest.number + 1) f) (sym added.1) next))
