@@ -48,11 +48,7 @@ fn are_known<'a>(names: &Names<'a>, operands: &[Operand<'a>]) -> bool
 }
 
 /// Whether all names of a statement are defined: those of a .seg, .equ, .space or .align at its place, others anywhere.
-pub(crate) fn is_known<'a>(
-    names: &Names<'a>,
-    at: &Places<'a>,
-    statement: &Statement<'a>,
-) -> bool
+pub(crate) fn is_known<'a>(names: &Names<'a>, at: &Places<'a>, statement: &Statement<'a>) -> bool
     ensures { result ≡ said.is_known names.now at.now statement.now }
 {
     match statement {

@@ -13,5 +13,5 @@ pub use content::Content;
 pub use line::content_of;
 pub use values::line_word;
 
-
-
+#[cfg(test)]
+mod tests;

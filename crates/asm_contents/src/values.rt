@@ -7,8 +7,8 @@ ghost use Rattle.asm_places.specs.Sums.{total};
 ghost use Rattle.asm_contents.specs.Adding.{AddsValues};
 ghost use Rattle.asm_contents.specs.Values as said;
 
-use asm_forms::{Values, word};
 use crate::numbers::low_64;
+use asm_forms::{Values, word};
 use asm_places::{Names, in_range, worth_of};
 use asm_statements::{Expression, Half, Mnemonic, Number, Operand};
 use operand_texts::{OperandText, operands};
