@@ -22,14 +22,6 @@ impl Model for Values {
     ghost view = { λ v. v.items.items };
 }
 
-impl Default for Values {
-    fn default() -> Values
-        ensures { result ≡ [] }
-    {
-        Values::new()
-    }
-}
-
 impl Values {
     /// No values.
     pub fn new() -> Values
