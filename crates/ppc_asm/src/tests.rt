@@ -112,7 +112,7 @@ fn segments_meet_by_their_whole_lengths(rt: HostRuntime) -> Result<(), Fail> {
 fn a_source_has_at_most_64_segments(rt: HostRuntime) -> Result<(), Fail> {
     let mut source = String::new(rt.alloc());
     for i in 0..64 {
-        source.push_str(&format!(in rt.alloc(); ".seg {}/.word {i}/", 8 * i)?)?;
+        source.push_str(&format!(in rt.alloc(); ".seg {}/.word {i}/", i.wrapping_mul(8))?)?;
     }
     let mut good = source.clone()?;
     good.push_str(".equ e, 8/.entry e")?;
@@ -134,16 +134,9 @@ fn a_source_has_an_entry_and_a_byte(rt: HostRuntime) -> Result<(), Fail> {
     expect_fault(rt.alloc(), &rt, 0, Entry, &no_entry);
     expect_fault(rt.alloc(), &rt, 0, Empty, &[".seg 0/e: /.entry e"]);
     let image = image(rt.alloc(), ".seg 0/.seg 0/e: .word 1/.entry e")?;
-    let sizes = image.segments.as_slice().iter().map(|segment| segment.size);
-    assert_eq!(rt; sizes.sum::<u64>(), 4);
-    assert_eq!(rt;
-        image
-            .segments
-            .as_slice()
-            .first()
-            .map(|segment| segment.size),
-        Some(0)
-    );
+    let segments = image.segments.as_slice();
+    assert_eq!(rt; segments.get(0).map(|segment| segment.size), Some(0));
+    assert_eq!(rt; segments.get(1).map(|segment| segment.size), Some(4));
     expect_bytes(
         rt.alloc(),
         &rt,
