@@ -47,7 +47,8 @@ def width_of(field):
 
 def spec_of_layout(layout):
     """The form of a layout, in the words of the specs."""
-    values = [f"{spec_of_reading(f)} (value_at vs {place_of(layout, f)}) >>= λ {f.name}. " for f in layout.fields if f.name not in MARKS]
+    operands = [f for f in layout.fields if f.name not in MARKS]
+    values = [f"{spec_of_reading(f)} (value_at vs {place_of(layout, f)}) >>= λ {f.name}. " for f in operands]
     parts = ["m.op"] if layout.has_op else []
     parts += [f"m.{f.name}" if f.name in MARKS else f.name for f in layout.fields]
     insn = " ".join([f"insn.{layout.name}"] + parts)
