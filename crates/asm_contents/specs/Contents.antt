@@ -1,8 +1,7 @@
 -- What each line puts into memory, or what is wrong with it once all names are known.
-use Rattle.std.specs.Prelude.{ℕ, zero, suc, ◌+◌, ◌^◌, List, [], ◌∷◌, length, take, replicate, slice_get, Bool, true, false, not, ◌&&◌, ◌||◌, Option, Some, None, option_map, Result, Ok, Err, nat_le, nat_lt, ◌==◌, ℤ, pos, negsuc, if◌then◌else◌}
+use Rattle.std.specs.Prelude.{ℕ, ◌+◌, ◌^◌, List, [], ◌∷◌, length, take, replicate, slice_get, Bool, true, false, not, ◌&&◌, ◌||◌, Option, Some, None, option_map, Result, Ok, Err, nat_le, nat_lt, ◌==◌, ℤ, pos, negsuc, if◌then◌else◌}
 use Rattle.std.specs.Int.{bytes_low_first, bytes_high_first}
 use Rattle.ppc_bits.specs.Bits.{modulo}
-use Rattle.asm_statements.specs.declared.expression.Term.{Term}
 use Rattle.asm_statements.specs.declared.statement.Width.{Width}
 use Rattle.asm_statements.specs.declared.statement.Width.TheVariants as widths
 use Rattle.asm_statements.specs.declared.statement.Statement.{Statement}

@@ -1,5 +1,5 @@
 -- What the operands of an instruction are worth.
-use Rattle.std.specs.Prelude.{ℕ, ◌+◌, ◌%◌, ◌^◌, List, [], ◌∷◌, ◌++◌, Bool, true, false, ◌&&◌, Option, Some, None, option_map, option_and_then, ℤ, pos, ◌-ℤ◌, if◌then◌else◌}
+use Rattle.std.specs.Prelude.{ℕ, ◌+◌, ◌%◌, ◌^◌, List, [], ◌∷◌, ◌++◌, Bool, true, false, ◌&&◌, Option, Some, None, option_map, option_and_then, ℤ, pos, ◌-ℤ◌}
 use Rattle.ppc_bits.specs.Bits.{bit, field_of, modulo, signed_of}
 use Rattle.operand_texts.specs.declared.kinds.OperandText.{OperandText}
 use Rattle.operand_texts.specs.declared.kinds.OperandText.TheVariants as texts

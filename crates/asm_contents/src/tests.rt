@@ -32,12 +32,11 @@ fn a_line_puts_its_number_its_text_or_its_zeros_into_memory(rt: HostRuntime) {
         )
     );
     assert!(rt; matches!(content(alloc, ".equ k, 5"), Ok(Content::Nothing)));
-    assert_eq!(rt;
-        content(alloc, ".ascii \"ab\"")
-            .map(|content| content.size())
-            .ok(),
-        Some(2)
-    );
+    let size = match content(alloc, ".ascii \"ab\"") {
+        Ok(content) => content.size(),
+        Err(_kind) => 0,
+    };
+    assert_eq!(rt; size, 2);
     assert!(rt; matches!(content(alloc, ".word k"), Err(AsmKind::Unknown)));
     assert!(rt; matches!(content(alloc, ".space -1"), Err(AsmKind::Range)));
 }

@@ -1,5 +1,5 @@
 -- Room for the bytes of a line.
-use Rattle.std.proofs.Common.{◌≡◌, ℕ, suc, ◌+◌, ◌-◌, ◌*◌, ◌<◌, ◌≤◌, ◌^◌, Bool, true, false, cond, List, [], ◌∷◌, ◌++◌, length, Some, None, Option, refl, ap, ◌∙◌, sym, subst, arith, true≢false}
+use Rattle.std.proofs.Common.{◌≡◌, ℕ, ◌+◌, ◌-◌, ◌<◌, ◌≤◌, ◌^◌, Bool, true, false, cond, List, [], ◌∷◌, ◌++◌, length, Some, None, Option, refl, ap, sym, arith, true≢false}
 use Rattle.std.specs.Prelude.{is_some, ◌||◌, nat_lt, ℤ, pos}
 use Rattle.std.specs.Str.{bytes_eq}
 use Rattle.std.proofs.lemmas.Option.{none-some}
@@ -17,7 +17,7 @@ use Rattle.asm_places.specs.Names.{Definition, defined, value_of, is_defined}
 use Rattle.asm_places.specs.declared.places.SegmentLine.{SegmentLine}
 use Rattle.asm_places.specs.declared.places.Places.{Places}
 use Rattle.asm_places.specs.Ranges.{most_zeros}
-use Rattle.asm_places.specs.Places.{address_of, address_or_zero, here_of, width_size, after_label, with_name}
+use Rattle.asm_places.specs.Places.{address_of, address_or_zero, here_of, width_size, after_label}
 use Rattle.asm_places.specs.FirstPass.{most_lines, is_same_name, defines_twice, repeats, is_twice, lacks_segment, fault_of}
 use Rattle.asm_places.specs.Keeping.{HaveAtMost, text_size, IsNew, AddsTo, AddsOptional, IsRoomy}
 

@@ -7,7 +7,7 @@ use Rattle.asm_statements.specs.declared.statement.Statement.TheVariants as stat
 use Rattle.asm_statements.specs.declared.line.Line.{Line}
 use Rattle.asm_statements.specs.Pieces.{line_pieces}
 use Rattle.asm_statements.specs.Statements.{line_of}
-use Rattle.asm_places.specs.Names.{Definition, is_defined}
+use Rattle.asm_places.specs.Names.{is_defined}
 use Rattle.asm_places.specs.Sums.{uses_here}
 use Rattle.asm_places.specs.Lines.{lines_of}
 use Rattle.asm_places.specs.Places.{no_places, after_label, after_optional}

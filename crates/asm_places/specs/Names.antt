@@ -1,5 +1,5 @@
 -- Names and their values.
-use Rattle.std.specs.Prelude.{◌≡◌, ◌<◌, ℕ, ◌^◌, List, [], ◌∷◌, Bool, true, false, Option, Some, None, is_some, ℤ, if◌then◌else◌}
+use Rattle.std.specs.Prelude.{ℕ, List, [], ◌∷◌, Bool, Option, Some, None, is_some, ℤ, if◌then◌else◌}
 use Rattle.std.specs.Str.{bytes_eq}
 
 -- a name with its value

@@ -1,11 +1,11 @@
 -- What stands where: the names, the segments and the addresses that lines make.
-use Rattle.std.specs.Prelude.{◌≡◌, ℕ, ◌+◌, ◌-◌, ◌%◌, ◌*◌, ◌^◌, List, [], ◌∷◌, ◌++◌, length, Bool, true, false, not, ◌&&◌, ◌||◌, Option, Some, None, is_some, nat_le, nat_lt, ◌==◌, ℤ, pos, negsuc, int_lt, if◌then◌else◌}
+use Rattle.std.specs.Prelude.{ℕ, ◌+◌, List, [], ◌∷◌, ◌++◌, length, Bool, true, false, Option, Some, None, ℤ, pos}
 use Rattle.asm_statements.specs.declared.expression.Term.{Term}
 use Rattle.asm_statements.specs.declared.statement.Width.{Width}
 use Rattle.asm_statements.specs.declared.statement.Width.TheVariants as widths
 use Rattle.asm_statements.specs.declared.statement.Statement.{Statement}
 use Rattle.asm_statements.specs.declared.statement.Statement.TheVariants as statements
-use Rattle.asm_places.specs.Names.{Definition, defined}
+use Rattle.asm_places.specs.Names.{defined}
 use Rattle.asm_places.specs.Ranges.{in_range, base_of, space_of, padding_of}
 use Rattle.asm_places.specs.Sums.{sum_of}
 use Rattle.asm_places.specs.declared.sum.Sum.{Sum}

@@ -1,5 +1,5 @@
 -- What an expression is worth.
-use Rattle.std.specs.Prelude.{◌≡◌, ℕ, List, [], ◌∷◌, Bool, true, false, ◌&&◌, ◌||◌, Option, Some, None, ℤ, pos, ◌+ℤ◌, ◌-ℤ◌, if◌then◌else◌}
+use Rattle.std.specs.Prelude.{List, [], ◌∷◌, Bool, true, false, ◌&&◌, ◌||◌, Option, Some, None, ℤ, pos, ◌+ℤ◌, ◌-ℤ◌, if◌then◌else◌}
 use Rattle.asm_statements.specs.declared.expression.Atom.{Atom}
 use Rattle.asm_statements.specs.declared.expression.Atom.TheVariants as atoms
 use Rattle.asm_statements.specs.declared.expression.Term.{Term}

@@ -177,11 +177,7 @@ impl<'a> Places<'a> {
     }
 
     /// Adds a statement.
-    fn add_statement(
-        &mut self,
-        line: u32,
-        statement: Statement<'a>,
-    ) -> Result<(), AllocError>
+    fn add_statement(&mut self, line: u32, statement: Statement<'a>) -> Result<(), AllocError>
         requires { AddsTo statement self.old }
         ensures { OnOk result (self.new ≡ said.after_statement line statement.entry self.old) }
     {

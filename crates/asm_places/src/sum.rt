@@ -73,12 +73,7 @@ fn with_term(sum: Sum, negative: bool, term: Sum) -> Sum
 ///
 /// The terms of a line with fewer than 2^63 bytes are at most 2^62, since a sign stands between two; each is below 2^65; so the
 /// sum fits 128 bits.
-pub fn worth_of<'a>(
-    expression: Expression<'a>,
-    names: &Names<'a>,
-    known: usize,
-    here: i128,
-) -> Sum
+pub fn worth_of<'a>(expression: Expression<'a>, names: &Names<'a>, known: usize, here: i128) -> Sum
     requires { IsSmall here }
     ensures { result ≡ sum_of (take known names.now) here expression.entry }
 {

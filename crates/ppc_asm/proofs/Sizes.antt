@@ -1,17 +1,13 @@
 -- The bytes of a line are as many as the first pass reckons with.
 use Rattle.std.proofs.Common.{◌≡◌, ℕ, ◌+◌, ◌≤◌, ◌^◌, Bool, true, false, cond, List, [], ◌∷◌, ◌++◌, length, Some, None, Ok, Err, Option, refl, ap, ◌∙◌, sym, subst, arith, true≢false, eqb-true, ℤ, pos}
-use Rattle.std.specs.Prelude.{replicate, option_map, ◌||◌, ◌==◌, nat_le}
+use Rattle.std.specs.Prelude.{option_map, ◌||◌, ◌==◌, nat_le}
 use Rattle.std.proofs.lemmas.Bool.{leb-true}
 use Rattle.std.proofs.lemmas.Option.{none-some}
 use Rattle.std.proofs.lemmas.List.{length-append, length-replicate}
-use Rattle.asm_statements.specs.declared.expression.Term.{Term}
-use Rattle.asm_statements.specs.declared.mnemonic.Mnemonic.{Mnemonic}
-use Rattle.asm_statements.specs.declared.operand.Operand.{Operand}
 use Rattle.asm_statements.specs.declared.statement.Width.{Width}
 use Rattle.asm_statements.specs.declared.statement.Width.TheVariants as widths
 use Rattle.asm_statements.specs.declared.statement.Statement.{Statement}
 use Rattle.asm_statements.specs.declared.statement.Statement.TheVariants as statements
-use Rattle.asm_places.specs.Names.{Definition}
 use Rattle.asm_places.specs.Sums.{total, all_known}
 use Rattle.asm_places.specs.Ranges.{in_range, space_of, padding_of}
 use Rattle.asm_places.specs.Places.{address_of, address_or_zero, here_of, end_of, grown, width_size, if_known, worth, settled_base, after_statement, after_optional}
@@ -22,10 +18,10 @@ use Rattle.asm_places.specs.declared.fault.AsmKind.{AsmKind}
 use Rattle.asm_places.specs.declared.fault.AsmKind.TheVariants as kinds
 use Rattle.asm_contents.specs.declared.content.Content.{Content}
 use Rattle.asm_contents.specs.declared.content.Content.TheVariants as contents
-use Rattle.asm_contents.specs.Contents.{content_bytes, fits_word, word_content, doubleword_content, big_endian_content, data_content, nothing_where, statement_content, is_known, ends_below, begun_kind, unless_kind, in_place, statement_or_kind, content_or_kind, content_of}
+use Rattle.asm_contents.specs.Contents.{content_bytes, fits_word, word_content, doubleword_content, big_endian_content, data_content, nothing_where, statement_content, is_known, ends_below, begun_kind, unless_kind, in_place, statement_or_kind, content_or_kind}
 use Rattle.asm_contents.specs.Values.{line_word}
-use Rattle.ppc_asm.specs.Images.{begun_by, line_bytes, bytes_where, begun_at}
-use Rattle.ppc_asm.specs.Filling.{Part, Filled, HasRoom, longer, filled_by, closed, with_segment, filled, EndsAlike, with_line, IsGood}
+use Rattle.ppc_asm.specs.Images.{begun_by, bytes_where, begun_at}
+use Rattle.ppc_asm.specs.Filling.{Part, Filled, HasRoom, longer, filled_by, filled, EndsAlike, with_line, IsGood}
 
 -- so many bytes more in the last segment
 grown-address : (n a : ℕ) (ss : List SegmentLine) → address_of ss ≡ Some a → address_of (grown n ss) ≡ Some (a + n)

@@ -1,5 +1,5 @@
 -- The image that a source means, or its first fault.
-use Rattle.std.specs.Prelude.{◌≡◌, ℕ, ◌+◌, List, [], ◌∷◌, ◌++◌, length, Bool, true, false, not, ◌||◌, ◌==◌, Option, Some, None, option_and_then, Result, Ok, Err, if◌then◌else◌}
+use Rattle.std.specs.Prelude.{◌≡◌, ℕ, ◌+◌, List, [], ◌∷◌, ◌++◌, length, Bool, false, not, ◌||◌, ◌==◌, Option, Some, None, option_and_then, Result, Ok, Err, if◌then◌else◌}
 use Rattle.elf_image.specs.Parts.{SegmentParts, ImageParts, image_parts}
 use Rattle.elf_image.specs.declared.image.Image.{Image}
 use Rattle.asm_statements.specs.declared.statement.Statement.{Statement}

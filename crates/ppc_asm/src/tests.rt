@@ -111,7 +111,7 @@ fn segments_meet_by_their_whole_lengths(rt: HostRuntime) -> Result<(), Fail> {
 #[test]
 fn a_source_has_at_most_64_segments(rt: HostRuntime) -> Result<(), Fail> {
     let mut source = String::new(rt.alloc());
-    for i in 0..64 {
+    for i in 0u64..64 {
         source.push_str(&format!(in rt.alloc(); ".seg {}/.word {i}/", i.wrapping_mul(8))?)?;
     }
     let mut good = source.clone()?;

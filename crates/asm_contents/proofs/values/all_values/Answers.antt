@@ -1,4 +1,4 @@
-use Rattle.std.proofs.Common.{◌≡◌, ◌+◌, ◌≤◌, List, [], ◌∷◌, length, drop, get_or, Some, None, ap, sym, subst, ◌∙◌, arith, refl, to_z, of_z}
+use Rattle.std.proofs.Common.{get_or, ap, sym, subst, ◌∙◌, arith, refl, to_z, of_z}
 use Rattle.std.proofs.lemmas.Int.{to_z-of_z}
 use mir.Syntax.{w128}
 use Rattle.std.proofs.lemmas.List.{drop_more}

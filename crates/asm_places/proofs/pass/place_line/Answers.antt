@@ -1,4 +1,4 @@
-use Rattle.std.proofs.Common.{◌≡◌, ◌-◌, ◌^◌, ◌∙◌, length, sym, subst, arith}
+use Rattle.std.proofs.Common.{◌-◌, ◌^◌, ◌∙◌, length, sym, subst, arith}
 use Rattle.asm_places.specs.Ranges.{most_zeros}
 use Rattle.asm_places.specs.Keeping.{AddsOptional}
 use Rattle.asm_places.proofs.Room.{end_small, label-new, line-adds}

@@ -1,4 +1,4 @@
-use Rattle.std.proofs.Common.{◌≡◌, take, length}
+use Rattle.std.proofs.Common.{take, length}
 use Rattle.asm_places.specs.Adding.{Added}
 use Rattle.asm_places.proofs.sum.worth_of.Given as goal
 

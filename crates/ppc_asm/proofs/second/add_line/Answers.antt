@@ -1,4 +1,4 @@
-use Rattle.std.proofs.Common.{◌≡◌, ◌∙◌, sym}
+use Rattle.std.proofs.Common.{◌∙◌, sym}
 use Rattle.ppc_asm.proofs.Sizes.{room-for}
 use Rattle.ppc_asm.proofs.second.add_line.Goals as goal
 

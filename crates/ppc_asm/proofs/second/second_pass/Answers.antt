@@ -2,7 +2,7 @@ use Rattle.std.proofs.Common.{◌≡◌, ◌+◌, [], ◌∙◌, length, drop, e
 use Rattle.asm_places.specs.FirstPass.{at_place, after_placed}
 use Rattle.asm_places.proofs.Within.{room}
 use Rattle.ppc_asm.specs.Filling.{HasRoom}
-use Rattle.ppc_asm.proofs.Lines.{IsFilled, empty-list, filled-start, filled-next, filled-end, ends-at, here-at, zeros-at}
+use Rattle.ppc_asm.proofs.Lines.{IsFilled, empty-list, filled-next, filled-end, ends-at, here-at, zeros-at}
 use Rattle.ppc_asm.proofs.second.second_pass.Goals as goal
 
 pub place_line-requires : goal.place_line-requires

@@ -1,4 +1,4 @@
-use Rattle.std.proofs.Common.{◌≡◌, ◌-◌, ◌^◌, ◌≤◌, ◌+◌, ℕ, length, ap, sym, subst, ◌∙◌, arith}
+use Rattle.std.proofs.Common.{◌≡◌, ◌-◌, ◌^◌, ◌≤◌, ◌+◌, length, ap, sym, subst, ◌∙◌, arith}
 use Rattle.asm_places.specs.Ranges.{most_zeros}
 use Rattle.asm_places.specs.Keeping.{text_size}
 use Rattle.asm_places.proofs.Room.{at_most, end_small, width_few}
