@@ -1,6 +1,6 @@
 #!/usr/bin/env python3
-"""Writes the files of `ppc_ops`, `word_decoder`, `ppc_decode`, `storage_ops`, `operand_texts` and `asm_forms` that repeat the
-table of docs/INSTRUCTIONS.md.
+"""Writes the files of `ppc_ops`, `word_decoder`, `ppc_decode`, `storage_ops`, `operand_texts`, `asm_forms` and `ppc_disasm` that
+repeat the table of docs/INSTRUCTIONS.md.
 
 With `--check` it writes nothing, and fails where a file is not what the table gives.
 """
@@ -10,6 +10,7 @@ import sys
 import textwrap
 
 from access_forms import access_files
+from insn_texts import insn_text_files
 from instruction_table import PRIMARY, read_table
 from opcode_branches import branch_files
 from operand_fields import operand_files, pattern_lines
@@ -294,6 +295,7 @@ def all_files(table):
     files.update(access_files(table))
     files.update(text_files(table))
     files.update(value_files(table))
+    files.update(insn_text_files(table))
     return files
 
 

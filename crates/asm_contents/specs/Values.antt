@@ -5,7 +5,7 @@ use Rattle.operand_texts.specs.declared.kinds.OperandText.{OperandText}
 use Rattle.operand_texts.specs.declared.kinds.OperandText.TheVariants as texts
 use Rattle.operand_texts.specs.Operands.{operand_texts}
 use Rattle.asm_statements.specs.declared.expression.Term.{Term}
-use Rattle.asm_statements.specs.declared.mnemonic.Mnemonic.{Mnemonic}
+use Rattle.operand_texts.specs.declared.mnemonic.Mnemonic.{Mnemonic}
 use Rattle.asm_statements.specs.declared.operand.Half.{Half}
 use Rattle.asm_statements.specs.declared.operand.Half.TheVariants as halves
 use Rattle.asm_statements.specs.declared.operand.Number.{Number}

@@ -10,8 +10,8 @@ ghost use Rattle.asm_contents.specs.Values as said;
 use crate::numbers::low_64;
 use asm_forms::{Values, word};
 use asm_places::{Names, in_range, worth_of};
-use asm_statements::{Expression, Half, Mnemonic, Number, Operand};
-use operand_texts::{OperandText, operands};
+use asm_statements::{Expression, Half, Number, Operand};
+use operand_texts::{Mnemonic, OperandText, operands};
 
 /// What an expression is worth at an address, where all its names are defined.
 fn total_of<'a>(names: &Names<'a>, here: i128, expression: &Expression<'a>) -> i128

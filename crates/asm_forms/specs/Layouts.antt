@@ -1,19 +1,13 @@
 -- Written by tools/make_tables.py from docs/INSTRUCTIONS.md.
 -- The form of each layout that marks and the values of operands in text make.
-use Rattle.std.specs.Prelude.{ℤ, List, false, Option, Some, if◌then◌else◌}
-use Rattle.ppc_ops.specs.declared.op.Op.{Op}
+use Rattle.std.specs.Prelude.{ℤ, List, Option, Some, if◌then◌else◌}
 use Rattle.ppc_ops.specs.declared.insn.Insn.{Insn}
 use Rattle.ppc_ops.specs.declared.insn.Insn.TheVariants as insn
 use Rattle.ppc_ops.specs.declared.insn.Layout.{Layout}
 use Rattle.ppc_ops.specs.declared.insn.Layout.TheVariants as layout
 use Rattle.ppc_ops.specs.Classes.{compares_unsigned, has_one_source, scales_displacement, seeks_any_byte, shifts_words, turns_by_register}
-use Rattle.asm_statements.specs.declared.mnemonic.Mnemonic.{Mnemonic}
-use Rattle.asm_statements.specs.Mnemonics.{marked}
+use Rattle.operand_texts.specs.declared.mnemonic.Mnemonic.{Mnemonic}
 use Rattle.asm_forms.specs.Values.{value_at, number_of, signed_number, signed_multiple, displacement, compared, flag, flag_unless, ◌>>=◌}
-
--- an operation without marks
-abbrev pub unmarked : Op → Mnemonic
-unmarked op = marked op false false false false
 
 -- the form of this layout, with the value of each field in the place where the field stands in text
 abbrev pub form_by : Layout → Mnemonic → List ℤ → Option Insn

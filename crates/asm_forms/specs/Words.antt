@@ -4,7 +4,7 @@ use Rattle.ppc_ops.specs.declared.insn.Insn.{Insn}
 use Rattle.ppc_ops.specs.Forms.{is_invalid}
 use Rattle.ppc_ops.specs.Table.{layout_of}
 use Rattle.ppc_decode.specs.Encode.{word_for}
-use Rattle.asm_statements.specs.declared.mnemonic.Mnemonic.{Mnemonic}
+use Rattle.operand_texts.specs.declared.mnemonic.Mnemonic.{Mnemonic}
 use Rattle.asm_forms.specs.Layouts.{form_by}
 
 -- the form of an operation with marks, of the values of its operands

@@ -6,10 +6,11 @@ ghost use Rattle.ppc_ops.specs.declared.insn.Layout.TheVariants as layouts;
 ghost use Rattle.ppc_ops.specs.declared.op.Op.TheVariants.{Addpcis, Isel, Setb};
 ghost use Rattle.ppc_ops.specs.Table.{layout_of};
 ghost use Rattle.ppc_ops.specs.Fitting.{FitsFields};
-ghost use Rattle.asm_forms.specs.Layouts.{form_by, unmarked};
+ghost use Rattle.operand_texts.specs.Mnemonics.{unmarked};
+ghost use Rattle.asm_forms.specs.Layouts.{form_by};
 
 use crate::values::Values;
-use asm_statements::Mnemonic;
+use operand_texts::Mnemonic;
 use ppc_ops::{
     Insn, compares_unsigned, has_one_source, seeks_any_byte, shifts_words, turns_by_register,
 };

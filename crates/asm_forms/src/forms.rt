@@ -15,7 +15,7 @@ use crate::other_units::{
     trap_imm,
 };
 use crate::values::Values;
-use asm_statements::Mnemonic;
+use operand_texts::Mnemonic;
 use ppc_ops::{Insn, Layout, layout};
 
 /// The form that an operation with marks and the values of its operands make.

@@ -6,10 +6,11 @@ ghost use Rattle.ppc_ops.specs.declared.insn.Layout.TheVariants as layouts;
 ghost use Rattle.ppc_ops.specs.declared.op.Op.TheVariants.{Mcrf, Mcrxrx, Mfcr, Mfocrf, Mtcrf, Mtocrf, Mfspr, Mtspr, Mftb, Mfmsr, Sync, Sc};
 ghost use Rattle.ppc_ops.specs.Table.{layout_of};
 ghost use Rattle.ppc_ops.specs.Fitting.{FitsFields};
-ghost use Rattle.asm_forms.specs.Layouts.{form_by, unmarked};
+ghost use Rattle.operand_texts.specs.Mnemonics.{unmarked};
+ghost use Rattle.asm_forms.specs.Layouts.{form_by};
 
 use crate::values::Values;
-use asm_statements::Mnemonic;
+use operand_texts::Mnemonic;
 use ppc_ops::{Insn, scales_displacement};
 
 pub(crate) fn trap_imm(mnemonic: Mnemonic, values: &Values) -> Option<Insn>

@@ -1,5 +1,5 @@
 use super::*;
-use asm_statements::Mnemonic;
+use operand_texts::Mnemonic;
 use ppc_ops::Op;
 use std::process::Abort;
 

@@ -5,7 +5,7 @@ ghost use Rattle.asm_forms.specs.Words.{word_of};
 
 use crate::forms::form;
 use crate::values::Values;
-use asm_statements::Mnemonic;
+use operand_texts::Mnemonic;
 use ppc_decode::encode;
 
 /// The word of an operation with marks and the values of its operands in text; nothing where a value does not fit its

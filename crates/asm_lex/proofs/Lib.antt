@@ -4,9 +4,9 @@ mod Gaps
 mod Gathered
 mod Longest
 pub mod Moved
-mod NumberAt
+pub mod NumberAt
 mod OneLine
 mod Runs
-mod Steps
-mod TokenAt
-mod WordAt
+pub mod Steps
+pub mod TokenAt
+pub mod WordAt

@@ -7,7 +7,7 @@ use Rattle.std.proofs.lemmas.Option.{slice_get-map, slice_get_within, slice_get_
 use Rattle.ppc_ops.specs.declared.op.Op.{Op}
 use Rattle.ppc_ops.specs.declared.op.Row.{Row}
 use Rattle.ppc_ops.specs.Table.{operations, op_row, rows}
-use Rattle.asm_statements.specs.declared.mnemonic.Mnemonic.{Mnemonic}
+use Rattle.operand_texts.specs.declared.mnemonic.Mnemonic.{Mnemonic}
 use Rattle.asm_statements.specs.Mnemonics.{behind_front, as_name_of, first_of, name_among}
 use Rattle.asm_statements.specs.Mnemonics.{all_operations}
 

@@ -3,7 +3,7 @@ use Rattle.std.proofs.Common.{◌≡◌, ℕ, List, ◌∷◌, Option, None, ap,
 use Rattle.std.specs.Prelude.{option_and_then}
 use Rattle.asm_statements.specs.declared.piece.Piece.{Piece}
 use Rattle.asm_statements.specs.declared.piece.Piece.TheVariants as pieces
-use Rattle.asm_statements.specs.declared.mnemonic.Mnemonic.{Mnemonic}
+use Rattle.operand_texts.specs.declared.mnemonic.Mnemonic.{Mnemonic}
 use Rattle.asm_statements.specs.Mnemonics.{mnemonic_of}
 use Rattle.asm_statements.specs.Statements.{directive_of, instruction_in, statement_by, statement_of}
 

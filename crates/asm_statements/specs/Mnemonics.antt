@@ -1,14 +1,10 @@
 -- Names of operations with their marks.
-use Rattle.std.specs.Prelude.{ℕ, List, [], ◌∷◌, codes, Bool, true, false, not, ◌&&◌, ◌||◌, Option, Some, None, option_and_then, ◌==◌, if◌then◌else◌}
+use Rattle.std.specs.Prelude.{ℕ, List, [], ◌∷◌, codes, true, false, Option, Some, None, option_and_then, ◌==◌, if◌then◌else◌}
 use Rattle.std.specs.Str.{bytes_eq}
 use Rattle.ppc_ops.specs.declared.op.Op.{Op}
 use Rattle.ppc_ops.specs.Table.{operations, name_of}
-use Rattle.operand_texts.specs.Marks.{takes_overflow, takes_record, takes_link, takes_absolute}
-use Rattle.asm_statements.specs.declared.mnemonic.Mnemonic.{Mnemonic}
-
--- the marks of an operation's name
-abbrev pub marked : Op → Bool → Bool → Bool → Bool → Mnemonic
-marked op oe rc lk aa = record { op = op; oe = oe; rc = rc; lk = lk; aa = aa }
+use Rattle.operand_texts.specs.declared.mnemonic.Mnemonic.{Mnemonic}
+use Rattle.operand_texts.specs.Mnemonics.{marked, takes_marks}
 
 -- An operation with the marks that stand behind its name: `o` for the overflow bits and then `.` for the record in CR,
 -- or `l` for the link and then `a` for an absolute target.
@@ -22,11 +18,6 @@ with_marks op marks =
     else if bytes_eq marks (codes "a") then Some (marked op false false false true)
     else if bytes_eq marks (codes "la") then Some (marked op false false true true)
     else None
-
--- the operation has the marks
-abbrev pub takes_marks : Mnemonic → Bool
-takes_marks m =
-    (not m.oe || takes_overflow m.op) && (not m.rc || takes_record m.op) && (not m.lk || takes_link m.op) && (not m.aa || takes_absolute m.op)
 
 abbrev pub where_taken : Mnemonic → Option Mnemonic
 where_taken m = if takes_marks m then Some m else None

@@ -5,7 +5,7 @@ use Rattle.operand_texts.specs.Operands.{operand_texts}
 use Rattle.asm_statements.specs.declared.piece.Sign.TheVariants as signs
 use Rattle.asm_statements.specs.declared.piece.Piece.{Piece}
 use Rattle.asm_statements.specs.declared.piece.Piece.TheVariants as pieces
-use Rattle.asm_statements.specs.declared.mnemonic.Mnemonic.{Mnemonic}
+use Rattle.operand_texts.specs.declared.mnemonic.Mnemonic.{Mnemonic}
 use Rattle.asm_statements.specs.declared.statement.Directive.{Directive}
 use Rattle.asm_statements.specs.declared.statement.Directive.TheVariants as directives
 use Rattle.asm_statements.specs.declared.statement.Width.TheVariants as widths

@@ -17,7 +17,6 @@ mod statement_reading;
 pub use expression::{Atom, Expression, Term};
 pub use laws::a_text_is_no_longer_than_its_line;
 pub use line::{Line, read_line};
-pub use mnemonic::Mnemonic;
 pub use operand::{Half, Number, Operand};
 pub use operand_list::Operands;
 pub use piece::{Piece, Sign};

@@ -1,38 +1,17 @@
 //! Names of operations with their marks.
 
 ghost use Rattle.std.specs.Prelude.{◌≡◌, ◌<◌, length, option_and_then, drop, slice_get};
-ghost use Rattle.asm_statements.specs.Mnemonics.{with_marks, takes_marks, behind_front, as_name_of, all_operations, mnemonic_of};
+ghost use Rattle.asm_statements.specs.Mnemonics.{with_marks, behind_front, as_name_of, all_operations, mnemonic_of};
 
 use crate::spelling::Spelling;
-use operand_texts::{takes_absolute, takes_link, takes_overflow, takes_record};
+use operand_texts::{Mnemonic, takes_marks};
 use ppc_ops::{Op, name, row, row_count};
-
-/// An operation with the marks of its name.
-#[derive(Clone, Copy, Debug, PartialEq, Eq)]
-pub struct Mnemonic {
-    /// The operation.
-    pub op: Op,
-    /// Whether `o` stands behind the name: the overflow bits are asked for.
-    pub oe: bool,
-    /// Whether `.` stands behind the name, or behind `o`: the record in CR field 0 is asked for.
-    pub rc: bool,
-    /// Whether `l` stands behind the name: the link register is set.
-    pub lk: bool,
-    /// Whether `a` stands behind the name, or behind `l`: the target is absolute.
-    pub aa: bool,
-}
 
 /// An operation with the marks that stand behind its name.
 fn with_marks(op: Op, marks: &[u8]) -> Option<Mnemonic>
     ensures { result ≡ with_marks op marks.now }
 {
-    let plain = Mnemonic {
-        op,
-        oe: false,
-        rc: false,
-        lk: false,
-        aa: false,
-    };
+    let plain = Mnemonic::unmarked(op);
     match marks {
         b"" => Some(plain),
         b"o" => Some(Mnemonic { oe: true, ..plain }),
@@ -51,16 +30,6 @@ fn with_marks(op: Op, marks: &[u8]) -> Option<Mnemonic>
         }),
         _ => None,
     }
-}
-
-/// Whether the operation has the marks.
-fn takes_marks(mnemonic: Mnemonic) -> bool
-    ensures { result ≡ takes_marks mnemonic }
-{
-    (!mnemonic.oe || takes_overflow(mnemonic.op))
-        && (!mnemonic.rc || takes_record(mnemonic.op))
-        && (!mnemonic.lk || takes_link(mnemonic.op))
-        && (!mnemonic.aa || takes_absolute(mnemonic.op))
 }
 
 /// What stands behind a front of a word.

@@ -1,9 +1,9 @@
 //! Statements.
 
 use crate::expression::Expression;
-use crate::mnemonic::Mnemonic;
 use crate::operand_list::Operands;
 use crate::spelling::Spelling;
+use operand_texts::Mnemonic;
 
 /// A directive, by its word.
 #[derive(Clone, Copy, Debug, PartialEq, Eq)]

@@ -5,13 +5,13 @@ ghost use Rattle.std.specs.Str.{bytes_eq};
 ghost use Rattle.asm_statements.specs.Statements.{directive_of, name_in, text_in, definition_in, directive_in, instruction_in, statement_of};
 
 use crate::expression::{Expression, is_plain};
-use crate::mnemonic::{Mnemonic, mnemonic_of};
+use crate::mnemonic::mnemonic_of;
 use crate::operand_reading::read_operands;
 use crate::piece::{Piece, Sign};
 use crate::pieces::Pieces;
 use crate::spelling::Spelling;
 use crate::statement::{Directive, Statement, Width};
-use operand_texts::operands;
+use operand_texts::{Mnemonic, operands};
 
 /// Whether a word is spelled so.
 fn is_spelled(word: &[u8], name: &str) -> bool

@@ -1,4 +1,5 @@
 use super::*;
+use operand_texts::Mnemonic;
 use ppc_ops::Op;
 use std::process::Abort;
 

@@ -1,0 +1,6 @@
+use Rattle.std.proofs.Common.{length, ◌≡◌, ◌+◌, ◌++◌, ◌≤◌, ℕ}
+use Rattle.ppc_disasm.specs.Texts as said
+use Rattle.ppc_disasm.proofs.operands.+push_operands.Given as goal
+
+abbrev pub decreases-push_operands : goal.decreases-push_operands
+decreases-push_operands l = length l.kinds.now
