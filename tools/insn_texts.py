@@ -1,8 +1,8 @@
 """Writes the files of `ppc_disasm` that say which marks and values each form has in assembler text."""
 
-from operand_fields import import_lines
-from operand_texts import MARKS
-from operand_values import FIRST_OF_OTHERS, fields_in_order, takes_mnemonic
+from operand_texts import MARKS, is_displacement, read_operand, test_of
+from operand_values import fields_in_order
+from round_trip import facts_pattern, nested
 from word_fields import PATTERN_WIDTH, insn_pattern
 
 DISASM = "crates/ppc_disasm"
@@ -88,8 +88,8 @@ def code_of_value(field):
 def code_of_values(layout):
     """The lines of the values of a form in the code."""
     values = [code_of_value(f) for f in value_fields(layout)]
-    whole = f"[{', '.join(values)}]"
-    return [whole] if len(whole) <= ARRAY_WIDTH else ["["] + [f"    {value}," for value in values] + ["]"]
+    whole = ", ".join(values)
+    return [f"[{whole}]"] if len(whole) <= ARRAY_WIDTH else ["["] + [f"    {value}," for value in values] + ["]"]
 
 
 def indented(lines, indent, before, after):
@@ -149,9 +149,74 @@ def forms_file(table):
     ]
 
 
+def fact_of(field, kind, chosen):
+    """The proof that a field's value fits an operand of its kind. `chosen` says that the facts go by the text's class."""
+    name, reading = field.name, field.reading
+    fact = f"(rw e at f_{name})" if field.where and chosen else f"f_{name}"
+    if field.type == "bool":
+        return f"flag_below {name}"
+    if not reading.signed:
+        if field.where and not chosen:
+            return f"distance_below ({field.where} op) {name} {fact}"
+        return fact if kind.startswith("Register") else f"number_below {name} _ {fact} (omega arith)"
+    if reading.zeros:
+        return f"{ {16: 'branch', 26: 'jump'}[reading.width()] }_within {name} {fact}"
+    if not field.where:
+        return f"signed_within {name} {fact}"
+    if field.other.zeros:
+        return f"displacement_within ({field.where} op) {name} {fact}"
+    return f"{'compared_below' if kind == 'Number' else 'signed_within'} {name} {fact}"
+
+
+def facts_of(layout, operands):
+    """The proofs that the values fit operands in text, as a tuple."""
+    fields, facts = {f.name: f for f in layout.fields}, []
+    for kind, name in map(read_operand, operands):
+        chosen = fields[name].where in layout.text.where
+        fact = fact_of(fields[name], kind, chosen)
+        facts.append(f"({fact}, f_ra)" if is_displacement(kind) else fact)
+    return nested(facts, "tt")
+
+
+def fit_clause(table, layout):
+    """The values of a form fit its operands."""
+    start, vs = f"values_fit {insn_pattern(layout)} {facts_pattern(layout)} =", f"({spec_of_values(layout)})"
+    usual = facts_of(layout, layout.text.usual)
+    if not layout.has_op:
+        return f"{start} {usual}"
+    if layout.text.where:
+        test = " || ".join(test_of(table, name, " op") for name in layout.text.where)
+        usual = f"(chosen _ _ ({test}) {vs} (λ e. {facts_of(layout, layout.text.other)}) (λ e. {usual}))"
+    return f"{start} subst (λ which. FitKinds (layout_texts which op) {vs}) (sym same) {usual}"
+
+
+def fit_proof(table):
+    """The lemma that the values of a form fit its operands."""
+    clauses = [fit_clause(table, layout) for layout in table.layouts]
+    classes = sorted(c.name for c in table.classes if any(f"{c.name} op" in clause for clause in clauses))
+    return [
+        "-- The values of each form fit its operands in text.",
+        "use Rattle.std.proofs.Common.{◌∷◌, [], sym, subst, arith}",
+        "use Rattle.std.specs.Prelude.{pos, ◌||◌}",
+        "use Rattle.std.specs.Int.{from_bool}",
+        "use Rattle.ppc_ops.specs.declared.insn.Insn.{Insn}",
+        "use Rattle.ppc_ops.specs.declared.insn.Insn.TheVariants as insn",
+        f"use Rattle.ppc_ops.specs.Classes.{{{', '.join(classes)}}}",
+        "use Rattle.ppc_ops.specs.Fitting.{FitsFields}",
+        "use Rattle.operand_texts.specs.Operands.{operand_texts, layout_texts, is_rlwnm}",
+        "use Rattle.ppc_disasm.specs.Forms.{mnemonic_of, values_of}",
+        "use Rattle.ppc_disasm.proofs.Fitting.{FitKinds, chosen, number_below, flag_below, distance_below, compared_below, "
+        "signed_within, displacement_within, branch_within, jump_within}",
+        "",
+        "pub values_fit : (i : Insn) → FitsFields i → FitKinds (operand_texts (mnemonic_of i).op) (values_of i)",
+        *clauses,
+    ]
+
+
 def insn_text_files(table):
     """The files of `ppc_disasm` that repeat the table."""
     return {
         f"{DISASM}/specs/Forms.antt": forms_spec(table),
         f"{DISASM}/src/forms.rt": forms_file(table),
+        f"{DISASM}/proofs/LayoutsFit.antt": fit_proof(table),
     }

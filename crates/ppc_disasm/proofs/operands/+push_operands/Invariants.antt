@@ -1,5 +1,4 @@
-use Rattle.std.proofs.Common.{length, ◌≡◌, ◌+◌, ◌++◌, ◌≤◌, ℕ}
-use Rattle.ppc_disasm.specs.Texts as said
+use Rattle.std.proofs.Common.{length}
 use Rattle.ppc_disasm.proofs.operands.+push_operands.Given as goal
 
 abbrev pub decreases-push_operands : goal.decreases-push_operands
