@@ -1,6 +1,6 @@
 #!/usr/bin/env python3
-"""Writes the files of `ppc_ops`, `word_decoder`, `ppc_decode`, `storage_ops`, `operand_texts`, `asm_forms` and `ppc_disasm` that
-repeat the table of docs/INSTRUCTIONS.md.
+"""Writes the files of `ppc_ops`, `word_decoder`, `ppc_decode`, `storage_ops`, `operand_texts`, `asm_forms`, `ppc_disasm` and
+`text_laws` that repeat the table of docs/INSTRUCTIONS.md.
 
 With `--check` it writes nothing, and fails where a file is not what the table gives.
 """
@@ -17,6 +17,7 @@ from operand_fields import operand_files, pattern_lines
 from operand_texts import text_files
 from operand_values import value_files
 from round_trip import round_trip_files
+from text_readings import reading_files
 from word_fields import word_files
 
 TOP = os.path.dirname(os.path.dirname(os.path.abspath(__file__)))
@@ -296,6 +297,7 @@ def all_files(table):
     files.update(text_files(table))
     files.update(value_files(table))
     files.update(insn_text_files(table))
+    files.update(reading_files(table))
     return files
 
 

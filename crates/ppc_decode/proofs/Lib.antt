@@ -2,4 +2,4 @@ mod Sums
 mod Found
 mod Parts
 mod RoundTrip
-mod Whole
+pub mod Whole

@@ -1,1 +1,17 @@
+mod Assembled
+mod BitsFit
+mod FieldsRead
+mod FormRead
+mod LayoutsRead
+mod Names
+mod OperandsRead
+mod OperandsWorth
+mod ReadNumbers
 mod Shapes
+mod Shown
+mod ShownNames
+mod ShownNumbers
+mod ShownOperands
+mod Stated
+mod WordsFit
+mod WordRead

@@ -1,5 +1,5 @@
 -- The pieces of a form's text.
-use Rattle.std.proofs.Common.{ℕ, zero, suc, Bool, true, false, List, [], ◌∷◌, ◌++◌, drop, ℤ, pos, negsuc}
+use Rattle.std.proofs.Common.{zero, suc, Bool, true, false, List, [], ◌∷◌, ◌++◌, drop, ℤ, pos, negsuc}
 use Rattle.ppc_bits.specs.Bits.{modulo}
 use Rattle.operand_texts.specs.declared.kinds.OperandText.{OperandText}
 use Rattle.operand_texts.specs.declared.kinds.OperandText.TheVariants as texts

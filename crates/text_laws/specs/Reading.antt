@@ -1,5 +1,5 @@
 -- What the assembler makes of one line of text.
-use Rattle.std.specs.Prelude.{ℕ, List, Bool, Option, Some, None, option_and_then, if◌then◌else◌}
+use Rattle.std.specs.Prelude.{ℕ, List, Option, Some, None, option_and_then, if◌then◌else◌}
 use Rattle.asm_statements.specs.declared.statement.Statement.{Statement}
 use Rattle.asm_statements.specs.declared.line.Line.{Line}
 use Rattle.asm_statements.specs.Pieces.{line_pieces}

@@ -1,0 +1,5 @@
+use Rattle.text_laws.proofs.Assembled as assembled
+use Rattle.text_laws.proofs.laws.words_assemble.Goals as goal
+
+pub returns : goal.returns
+returns c = assembled.words_assemble
