@@ -1,0 +1,5 @@
+pub mod Draws
+pub mod Code
+pub mod Tables
+pub mod Generated
+pub mod Laws
