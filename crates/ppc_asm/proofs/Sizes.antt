@@ -85,14 +85,15 @@ same-grown : (n m : ℕ) (ss : List SegmentLine) → n ≡ m → grown n ss ≡ 
 same-grown n m ss e = ap (λ k. grown k ss) e
 
 -- what a good line is
-record Stands (whole p : Places) (statement : Statement) (c : Content) : Type 0 where
-  known : is_known whole.names p statement ≡ true
-  content : statement_content whole.names p statement ≡ Some c
-  below : ends_below (here_of p) (length (content_bytes c)) ≡ true
+pub record Stands (whole p : Places) (statement : Statement) (c : Content) : Type 0 where
+  pub known : is_known whole.names p statement ≡ true
+  pub content : statement_content whole.names p statement ≡ Some c
+  pub below : ends_below (here_of p) (length (content_bytes c)) ≡ true
+  pub begun : begun_kind whole.segments p statement ≡ None
 
-stands-unless : (k : Option AsmKind) (d c : Content) → unless_kind k d ≡ Ok c → d ≡ c
+stands-unless : (k : Option AsmKind) (d c : Content) → unless_kind k d ≡ Ok c → (d ≡ c) × (k ≡ None)
 stands-unless (Some kind) d c e = let no : ⊥ = cc in absurd no
-stands-unless None d c e = cc
+stands-unless None d c e = (cc, refl)
 
 stands-in : (whole p : Places) (statement : Statement) (c : Content) (o : Option Content) → is_known whole.names p statement ≡ true → statement_content whole.names p statement ≡ o
     → in_place whole p statement o ≡ Ok c → Stands whole p statement c
@@ -101,11 +102,12 @@ stands-in whole p statement c (Some d) known is e = of (ends_below (here_of p) (
   where
     of : (b : Bool) → ends_below (here_of p) (length (content_bytes d)) ≡ b → cond b (unless_kind (begun_kind whole.segments p statement) d) (Err kinds.Range) ≡ Ok c → Stands whole p statement c
     of true below same =
-        let j = stands-unless (begun_kind whole.segments p statement) d c same in
-        record { known = known; content = is ∙ ap Some j; below = ap (λ x. ends_below (here_of p) (length (content_bytes x))) (sym j) ∙ below }
+        let both = stands-unless (begun_kind whole.segments p statement) d c same in
+        let j = both.0 in
+        record { known = known; content = is ∙ ap Some j; below = ap (λ x. ends_below (here_of p) (length (content_bytes x))) (sym j) ∙ below; begun = both.1 }
     of false below same = let no : ⊥ = cc in absurd no
 
-stands : (whole p : Places) (statement : Statement) (c : Content) → statement_or_kind whole p statement ≡ Ok c → Stands whole p statement c
+pub stands : (whole p : Places) (statement : Statement) (c : Content) → statement_or_kind whole p statement ≡ Ok c → Stands whole p statement c
 stands whole p statement c e = of (is_known whole.names p statement) refl e
   where
     of : (b : Bool) → is_known whole.names p statement ≡ b → cond b (in_place whole p statement (statement_content whole.names p statement)) (Err kinds.Unknown) ≡ Ok c → Stands whole p statement c

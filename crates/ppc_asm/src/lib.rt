@@ -3,10 +3,12 @@
 
 mod filling;
 mod image;
+mod laws;
 mod second;
 
 pub use asm_places::{AsmFault, AsmKind};
 pub use image::assemble;
+pub use laws::a_source_has_1_to_64_segments;
 
 #[cfg(test)]
 mod tests;
