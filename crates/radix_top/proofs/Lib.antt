@@ -3,3 +3,5 @@ pub mod Refusals
 pub mod RunsOf
 pub mod LawsLemmas
 pub mod ConsoleLemmas
+pub mod CutWords
+pub mod Done

@@ -25,33 +25,32 @@ use Rattle.radix_top.specs.declared.inputs.RunInputs.{RunInputs}
 use Rattle.radix_top.specs.declared.status.Status.{Status}
 use Rattle.radix_top.specs.declared.status.Status.TheVariants as statuses
 use Rattle.radix_top.specs.Statuses.{ended_status}
-use Rattle.radix_top.specs.Words.{Text, word_at, command_of}
-use Rattle.radix_top.specs.Inputs.{FilesSeen, most, WasReadAs, AsksFor}
+use Rattle.radix_top.specs.Words.{Text}
+use Rattle.radix_top.specs.Inputs.{FilesSeen, AsksFor}
 use Rattle.radix_top.specs.Devices.{DevicesSeen, windows_in, DevicesAnswer}
 use Rattle.radix_top.specs.Causes.{ram_mib}
-use Rattle.radix_top.specs.Calls.{BenchSeen, leaves, IsLawfulFrom, EndsSo, IsRunOf, WasRun, report_of, Ran, Says}
+use Rattle.radix_top.specs.Calls.{BenchSeen, leaves, IsLawfulFrom, EndsSo, IsRunOf, WasRun, report_of, Says}
 use Rattle.radix_top.specs.Printed.{RunsReady}
+use Rattle.radix_top.specs.Prepared.{IsReady}
+use Rattle.radix_top.proofs.Done.{says_made}
 
--- what was prepared is what the words ask for
-pub record IsPrepared (m : FilesSeen) (words : List Text) (ready : RunInputs) : Type 0 where
-  pub command : command_of words ≡ Ok (Run ready.count ready.options)
-  pub image : IfSome (m.told (word_at words 1)) (λ bytes. (length bytes ≤ most) × IsImage bytes ready.image)
-  pub schedule : WasReadAs m (word_at words 2) (λ bytes. plan_of bytes ≡ Ok ready.schedule)
-
-abbrev pub asks_for : (m : FilesSeen) (words : List Text) (ready : RunInputs) → IsPrepared m words ready → AsksFor m words
-asks_for m words ready prepared = record {
+abbrev pub asks_for : (m : FilesSeen) (words : List Text) (ready : RunInputs) → IsReady m words ready → AsksFor m words
+asks_for m words ready is = record {
   count = ready.count;
   options = ready.options;
   image = ready.image;
   plan = ready.schedule;
-  is_command = prepared.command;
-  image_file = prepared.image;
-  schedule_file = prepared.schedule;
+  guests = ready.guests;
+  is_command = is.command;
+  image_file = is.image;
+  schedule_file = is.schedule;
+  guest_files = is.guests;
+  last_read = is.last_read;
 }
 
 -- the machine that a prepared command opens with some devices
 abbrev pub opened_for : {D : Type 0} → RunInputs → DevicesSeen D → MachineView D
-opened_for ready d = opened d.size ready.image [] ram_mib 1 d.devices ready.count
+opened_for ready d = opened d.size ready.image ready.guests ram_mib 1 d.devices ready.count
 
 -- a machine that was just opened began as it is
 start_of-opened : {D : Type 0} (size : D → ℕ) (image : Image) (guests : List Guest) (mib threads : ℕ) (devices : List (PluggedOf D)) (steps : ℕ) →
@@ -64,10 +63,10 @@ answered : {D : Type 0} (d : DevicesSeen D) (ready : RunInputs) (machine : Machi
 answered d ready machine end run = λ slot.
     rw run.devices.added (chain_answers d.list d.answers (slots_for d.size d.devices) machine.slots run.devices.rows slot run.devices.chain)
 
-abbrev is_run_of : {D : Type 0} (m : FilesSeen) (words : List Text) (d : DevicesSeen D) (ready : RunInputs) (machine : MachineView D) (end : Ended) (prepared : IsPrepared m words ready) →
+abbrev is_run_of : {D : Type 0} (m : FilesSeen) (words : List Text) (d : DevicesSeen D) (ready : RunInputs) (machine : MachineView D) (end : Ended) (prepared : IsReady m words ready) →
     RunsTo (DeviceAnswers d.list d.answers) ready.schedule ready.count (opened_for ready d) machine end → IsRunOf m words d machine end
 is_run_of m words d ready machine end prepared run =
-    let begins : start_of machine ≡ start ready.image [] ram_mib 1 (windows_in d) = run.start ∙ start_of-opened d.size ready.image [] ram_mib 1 d.devices ready.count in
+    let begins : start_of machine ≡ start ready.image ready.guests ram_mib 1 (windows_in d) = run.start ∙ start_of-opened d.size ready.image ready.guests ram_mib 1 d.devices ready.count in
     let places : machine.journal.reserved ≡ ready.count = ap (λ (j : JournalView). j.reserved) run.grows.rows in
     let lawful : IsLawfulFrom m words (asks_for m words ready prepared) d machine = record {
       places = places;
@@ -83,37 +82,15 @@ is_run_of m words d ready machine end prepared run =
     } in
     record { asks = asks_for m words ready prepared; lawful = lawful; ends = ends_so }
 
-says_end : {D : Type 0} (m : FilesSeen) (words : List Text) (d : DevicesSeen D) (left : BenchSeen D) (f f' : ℕ) (old new : Option (List ℕ)) (end : Ended) → Ran m words d left old new end → Says m words d left f f' old new (ended_status end)
-says_end m words d left f f' old new ends.AllRun ran = ran
-says_end m words d left f f' old new ends.ScheduleEnd ran = ran
-says_end m words d left f f' old new (ends.Stopped name value) ran = ran
-says_end m words d left f f' old new (ends.JournalFull kind count) ran = ran
-
-abbrev was_run : {D : Type 0} (m : FilesSeen) (words : List Text) (d : DevicesSeen D) (ready : RunInputs) (left : BenchSeen D) (machine : MachineView D) (f f' : ℕ) (old new : Option (List ℕ)) (s : Status) → IsPrepared m words ready → left ≡ leaves (Some machine) [] →
+abbrev was_run : {D : Type 0} (m : FilesSeen) (words : List Text) (d : DevicesSeen D) (ready : RunInputs) (left : BenchSeen D) (machine : MachineView D) (f f' : ℕ) (old new : Option (List ℕ)) (s : Status) → IsReady m words ready → left ≡ leaves (Some machine) [] →
     (runs : RunsReady d.list d.answers ready (opened_for ready d) machine f f' old new s) → WasRun m words d left runs.end
 was_run m words d ready left machine f f' old new s prepared is runs =
     record { machine = machine; there = ap (λ (b : BenchSeen _). b.machine) is; handed_over = ap (λ (b : BenchSeen _). b.devices) is; run = is_run_of m words d ready machine runs.end prepared runs.run }
 
-says_whole : {D : Type 0} (m : FilesSeen) (words : List Text) (d : DevicesSeen D) (ready : RunInputs) (left : BenchSeen D) (machine : MachineView D) (f f' : ℕ) (old new : Option (List ℕ)) (s s' : Status) → IsPrepared m words ready → left ≡ leaves (Some machine) [] →
-    (runs : RunsReady d.list d.answers ready (opened_for ready d) machine f f' old new s') →
-    (s ≡ ended_status runs.end) × (new ≡ added old (report_of machine runs.end ready.options)) → Says m words d left f f' old new s
-says_whole m words d ready left machine f f' old new s s' prepared is runs prints =
-    subst (Says m words d left f f' old new) (sym prints.0)
-    (says_end m words d left f f' old new runs.end (record { was_run = was_run m words d ready left machine f f' old new s' prepared is runs; printed = prints.1 }))
-
 -- a run whose report was printed, or cut short
-pub says_ran : {D : Type 0} (m : FilesSeen) (words : List Text) (d : DevicesSeen D) (ready : RunInputs) (left : BenchSeen D) (machine : MachineView D) (f f' : ℕ) (old new : Option (List ℕ)) (s : Status) → IsPrepared m words ready → left ≡ leaves (Some machine) [] →
+pub says_ran : {D : Type 0} (m : FilesSeen) (words : List Text) (d : DevicesSeen D) (ready : RunInputs) (left : BenchSeen D) (machine : MachineView D) (f f' : ℕ) (old new : Option (List ℕ)) (s : Status) → IsReady m words ready → left ≡ leaves (Some machine) [] →
     RunsReady d.list d.answers ready (opened_for ready d) machine f f' old new s → Says m words d left f f' old new s
-says_ran m words d ready left machine f f' old new statuses.WriteFault prepared is runs =
-    (runs.prints.0, inr (record { end = runs.end; was_run = was_run m words d ready left machine f f' old new statuses.WriteFault prepared is runs; front = runs.prints.1 }))
-says_ran m words d ready left machine f f' old new (statuses.Done e) prepared is runs = says_whole m words d ready left machine f f' old new _ _ prepared is runs runs.prints
-says_ran m words d ready left machine f f' old new (statuses.Usage p) prepared is runs = says_whole m words d ready left machine f f' old new _ _ prepared is runs runs.prints
-says_ran m words d ready left machine f f' old new (statuses.ReadFault p) prepared is runs = says_whole m words d ready left machine f f' old new _ _ prepared is runs runs.prints
-says_ran m words d ready left machine f f' old new (statuses.TooLong p) prepared is runs = says_whole m words d ready left machine f f' old new _ _ prepared is runs runs.prints
-says_ran m words d ready left machine f f' old new (statuses.BadImage x) prepared is runs = says_whole m words d ready left machine f f' old new _ _ prepared is runs runs.prints
-says_ran m words d ready left machine f f' old new (statuses.BadSchedule p) prepared is runs = says_whole m words d ready left machine f f' old new _ _ prepared is runs runs.prints
-says_ran m words d ready left machine f f' old new (statuses.BadPlace a b) prepared is runs = says_whole m words d ready left machine f f' old new _ _ prepared is runs runs.prints
-says_ran m words d ready left machine f f' old new (statuses.BadDevice i x) prepared is runs = says_whole m words d ready left machine f f' old new _ _ prepared is runs runs.prints
-says_ran m words d ready left machine f f' old new statuses.Memory prepared is runs = says_whole m words d ready left machine f f' old new _ _ prepared is runs runs.prints
-says_ran m words d ready left machine f f' old new (statuses.Stopped n v) prepared is runs = says_whole m words d ready left machine f f' old new _ _ prepared is runs runs.prints
-says_ran m words d ready left machine f f' old new (statuses.JournalFull k c) prepared is runs = says_whole m words d ready left machine f f' old new _ _ prepared is runs runs.prints
+says_ran m words d ready left machine f f' old new s prepared is runs =
+    says_made m words d left f f' old new runs.end (report_of machine runs.end ready.options) s
+    (record { command = Run ready.count ready.options; is_command = prepared.command; makes = record { was_run = was_run m words d ready left machine f f' old new s prepared is runs; report = refl } })
+    runs.prints

@@ -8,6 +8,8 @@ use Rattle.ppc_bus.specs.declared.faults.PlugReason.TheVariants as plug_reasons
 use Rattle.elf_image.specs.declared.span.Span.{Span}
 use Rattle.elf_image.specs.Places.{bad_place_of}
 use Rattle.ppc_machine.specs.Plugging.{first_refused}
+use Rattle.asm_places.specs.declared.fault.AsmKind.{AsmKind}
+use Rattle.asm_places.specs.declared.fault.AsmKind.TheVariants as asm_kinds
 use Rattle.elf_image.specs.declared.fault.ElfFault.{ElfFault}
 use Rattle.elf_image.specs.declared.fault.ElfFault.TheVariants as elf_faults
 use Rattle.radix_top.specs.declared.status.Refusal.{Refusal}
@@ -25,15 +27,15 @@ pub record FailsAtFile (m : FilesSeen) (words : List Text) (r : Refusal) : Type 
 abbrev pub ram_mib : ℕ
 ram_mib = 16
 
--- the first range of the image that leaves RAM, or meets one before it, and what it has no place beside
+-- the first range of the image and the guests that leaves RAM, or meets one before it, and what it has no place beside
 pub record FailsAtPlace (m : FilesSeen) (words : List Text) (range other : Span) : Type 0 where
   pub asks : AsksFor m words
-  pub place : bad_place_of asks.image [] ram_mib ≡ Some (range, other)
+  pub place : bad_place_of asks.image asks.guests ram_mib ≡ Some (range, other)
 
--- the image has its place, and the first of the devices with these windows that is not plugged has this number
+-- the image and the guests have their places, and the first of the devices with these windows that is not plugged has this number
 pub record FailsAtDevice (m : FilesSeen) (words : List Text) (windows : List Window) (number : ℕ) (reason : PlugReason) : Type 0 where
   pub asks : AsksFor m words
-  pub place : bad_place_of asks.image [] ram_mib ≡ None
+  pub place : bad_place_of asks.image asks.guests ram_mib ≡ None
   pub device : first_refused 0 [] windows ≡ Some (number, reason)
 
 -- why a call with devices of these windows is refused; memory that ran out has no cause
@@ -43,6 +45,7 @@ HasCause m words windows (refusals.ReadFault place) = FailsAtFile m words (refus
 HasCause m words windows (refusals.TooLong place) = FailsAtFile m words (refusals.TooLong place)
 HasCause m words windows (refusals.BadImage fault) = FailsAtFile m words (refusals.BadImage fault)
 HasCause m words windows (refusals.BadSchedule place) = FailsAtFile m words (refusals.BadSchedule place)
+HasCause m words windows (refusals.BadAsm line kind) = FailsAtFile m words (refusals.BadAsm line kind)
 HasCause m words windows (refusals.BadPlace range other) = FailsAtPlace m words range other
 HasCause m words windows (refusals.BadDevice number reason) = FailsAtDevice m words windows number reason
 HasCause m words windows refusals.Memory = Unit {0}
@@ -62,6 +65,20 @@ elf_name (elf_faults.Segment number) = codes "Segment " ++ decimal number
 elf_name (elf_faults.Overlap i j) = codes "Overlap " ++ decimal i ++ codes " " ++ decimal j
 elf_name elf_faults.Memory = codes "Memory"
 
+-- the name of what is wrong with a line of a source, or with the source
+abbrev pub asm_name : AsmKind → List ℕ
+asm_name asm_kinds.Lex = codes "Lex"
+asm_name asm_kinds.Form = codes "Form"
+asm_name asm_kinds.Twice = codes "Twice"
+asm_name asm_kinds.NoSegment = codes "NoSegment"
+asm_name asm_kinds.Lines = codes "Lines"
+asm_name asm_kinds.Unknown = codes "Unknown"
+asm_name asm_kinds.Range = codes "Range"
+asm_name asm_kinds.Overlap = codes "Overlap"
+asm_name asm_kinds.Entry = codes "Entry"
+asm_name asm_kinds.Segments = codes "Segments"
+asm_name asm_kinds.Empty = codes "Empty"
+
 -- the two ends of a range
 abbrev pub span_text : Span → List ℕ
 span_text range = codes " " ++ hex 16 range.from ++ codes " " ++ hex 16 range.to
@@ -79,6 +96,7 @@ fault_line (refusals.ReadFault place) = codes "fault read " ++ decimal place ++ 
 fault_line (refusals.TooLong place) = codes "fault long " ++ decimal place ++ end_of_line
 fault_line (refusals.BadImage fault) = codes "fault image " ++ elf_name fault ++ end_of_line
 fault_line (refusals.BadSchedule place) = codes "fault schedule " ++ decimal place ++ end_of_line
+fault_line (refusals.BadAsm line kind) = codes "fault asm " ++ decimal line ++ codes " " ++ asm_name kind ++ end_of_line
 fault_line (refusals.BadPlace range other) = codes "fault place" ++ span_text range ++ span_text other ++ end_of_line
 fault_line (refusals.BadDevice number reason) = codes "fault device " ++ decimal number ++ codes " " ++ plug_name reason ++ end_of_line
 fault_line refusals.Memory = codes "fault memory" ++ end_of_line

@@ -6,5 +6,6 @@ pub mod Devices
 pub mod Causes
 pub mod Calls
 pub mod Printed
+pub mod Prepared
 pub mod Laws
 pub mod Showing

@@ -3,6 +3,7 @@ use Rattle.std.specs.Prelude.{◌≡◌, ℕ, List, [], Option, Some, None}
 use Rattle.outer_io.specs.Outside.{CountRose, added, AddsFront}
 use Rattle.journal_core.specs.declared.rows.Ended.{Ended}
 use Rattle.elf_image.specs.declared.image.Image.{Image}
+use Rattle.elf_image.specs.declared.guests.Guest.{Guest}
 use Rattle.elf_image.specs.Places.{bad_place_of}
 use Rattle.ppc_bus.specs.Windows.{Window}
 use Rattle.ppc_bus.specs.Devices.{Access, Reply}
@@ -39,16 +40,17 @@ RefusesAs (reasons.BadPlace range other) r = r ≡ refusals.BadPlace range other
 RefusesAs (reasons.Device number reason) r = r ≡ refusals.BadDevice number reason
 RefusesAs reasons.Memory r = r ≡ refusals.Memory
 
--- why no machine is opened with an image and devices of these windows
-abbrev pub FailsToOpen : Image → List Window → Refusal → Type 0
-FailsToOpen image windows (refusals.BadPlace range other) = bad_place_of image [] ram_mib ≡ Some (range, other)
-FailsToOpen image windows (refusals.BadDevice number reason) = (bad_place_of image [] ram_mib ≡ None) × (first_refused 0 [] windows ≡ Some (number, reason))
-FailsToOpen image windows refusals.Memory = Unit {0}
-FailsToOpen image windows (refusals.Usage place) = ⊥
-FailsToOpen image windows (refusals.ReadFault place) = ⊥
-FailsToOpen image windows (refusals.TooLong place) = ⊥
-FailsToOpen image windows (refusals.BadImage fault) = ⊥
-FailsToOpen image windows (refusals.BadSchedule place) = ⊥
+-- why no machine is opened with an image, guests and devices of these windows
+abbrev pub FailsToOpen : Image → List Guest → List Window → Refusal → Type 0
+FailsToOpen image guests windows (refusals.BadPlace range other) = bad_place_of image guests ram_mib ≡ Some (range, other)
+FailsToOpen image guests windows (refusals.BadDevice number reason) = (bad_place_of image guests ram_mib ≡ None) × (first_refused 0 [] windows ≡ Some (number, reason))
+FailsToOpen image guests windows refusals.Memory = Unit {0}
+FailsToOpen image guests windows (refusals.Usage place) = ⊥
+FailsToOpen image guests windows (refusals.ReadFault place) = ⊥
+FailsToOpen image guests windows (refusals.TooLong place) = ⊥
+FailsToOpen image guests windows (refusals.BadImage fault) = ⊥
+FailsToOpen image guests windows (refusals.BadSchedule place) = ⊥
+FailsToOpen image guests windows (refusals.BadAsm line kind) = ⊥
 
 -- a text was printed whole, with this status, or it was cut short
 abbrev pub PrintsAs : Status → List ℕ → ℕ → ℕ → Option (List ℕ) → Option (List ℕ) → Status → Type 0

@@ -12,5 +12,6 @@ ReadFails m name place refusals.Memory = Unit {0}
 ReadFails m name place (refusals.Usage p) = ⊥
 ReadFails m name place (refusals.BadImage fault) = ⊥
 ReadFails m name place (refusals.BadSchedule p) = ⊥
+ReadFails m name place (refusals.BadAsm line kind) = ⊥
 ReadFails m name place (refusals.BadPlace range other) = ⊥
 ReadFails m name place (refusals.BadDevice number reason) = ⊥

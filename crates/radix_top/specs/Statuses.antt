@@ -13,6 +13,7 @@ refused_status (refusals.ReadFault place) = statuses.ReadFault place
 refused_status (refusals.TooLong place) = statuses.TooLong place
 refused_status (refusals.BadImage fault) = statuses.BadImage fault
 refused_status (refusals.BadSchedule place) = statuses.BadSchedule place
+refused_status (refusals.BadAsm line kind) = statuses.BadAsm line kind
 refused_status (refusals.BadPlace range other) = statuses.BadPlace range other
 refused_status (refusals.BadDevice number reason) = statuses.BadDevice number reason
 refused_status refusals.Memory = statuses.Memory

@@ -3,9 +3,10 @@
 ghost use Rattle.std.specs.Prelude.{◌≡◌, ◌≤◌, ◌++◌, ◌+◌, length, codes};
 ghost use Rattle.std.specs.Fmt.{decimal};
 ghost use Rattle.line_text.specs.Text.{end_of_line};
-ghost use Rattle.radix_top.specs.Causes.{elf_name, plug_name, span_text, fault_line};
+ghost use Rattle.radix_top.specs.Causes.{elf_name, asm_name, plug_name, span_text, fault_line};
 
 use crate::status::Refusal;
+use asm_places::AsmKind;
 use elf_image::{ElfFault, Span};
 use line_text::Line;
 use ppc_bus::PlugReason;
@@ -64,6 +65,39 @@ fn image_line(fault: ElfFault) -> Line
         ElfFault::Overlap(i, j) => overlap_line(i, j),
         ElfFault::Memory => plain(b"fault image Memory"),
     }
+}
+
+/// The name of what is wrong with a source.
+fn asm_name(kind: AsmKind) -> &'static [u8]
+    ensures name { result.now ≡ asm_name kind }
+    ensures most { length result.now ≤ 9 }
+{
+    match kind {
+        AsmKind::Lex => b"Lex",
+        AsmKind::Form => b"Form",
+        AsmKind::Twice => b"Twice",
+        AsmKind::NoSegment => b"NoSegment",
+        AsmKind::Lines => b"Lines",
+        AsmKind::Unknown => b"Unknown",
+        AsmKind::Range => b"Range",
+        AsmKind::Overlap => b"Overlap",
+        AsmKind::Entry => b"Entry",
+        AsmKind::Segments => b"Segments",
+        AsmKind::Empty => b"Empty",
+    }
+}
+
+/// The line of a source that is wrong.
+fn asm_line(number: u32, kind: AsmKind) -> Line
+    ensures { result ≡ codes "fault asm " ++ decimal number ++ codes " " ++ asm_name kind ++ end_of_line }
+{
+    let mut line = Line::new();
+    line.push_bytes(b"fault asm ");
+    line.push_number(u64::from(number));
+    line.push(b' ');
+    line.push_bytes(asm_name(kind));
+    line.push(b'\n');
+    line
 }
 
 /// Adds the two ends of a range.
@@ -129,6 +163,7 @@ pub fn fault_line(refusal: Refusal) -> Line
         Refusal::TooLong(place) => numbered(b"fault long ", place),
         Refusal::BadImage(fault) => image_line(fault),
         Refusal::BadSchedule(place) => numbered(b"fault schedule ", place),
+        Refusal::BadAsm(line, kind) => asm_line(line, kind),
         Refusal::BadPlace(range, other) => place_line(range, other),
         Refusal::BadDevice(number, reason) => device_line(number, reason),
         Refusal::Memory => plain(b"fault memory"),

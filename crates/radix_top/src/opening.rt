@@ -8,7 +8,6 @@ ghost use Rattle.radix_top.specs.Printed.{CanCome, RefusesAs, FailsToOpen};
 
 use crate::inputs::RunInputs;
 use crate::status::Refusal;
-use elf_image::Guests;
 use ppc_bus::Device;
 use ppc_machine::{MachineOf, OpenFaultOf, OpenReason, PluggedOf};
 use std::alloc::Global;
@@ -34,14 +33,14 @@ pub fn open_machine<D: Device>(
     devices: &mut Vec<PluggedOf<D>>,
 ) -> Result<MachineOf<D>, Refusal>
     requires { ready.now.count ≤ 1048576 }
-    ensures ok { IfOk result (λ m. m ≡ opened D.window_size ready.now.image [] ram_mib 1 devices.old.items ready.now.count) }
+    ensures ok { IfOk result (λ m. m ≡ opened D.window_size ready.now.image ready.now.guests ram_mib 1 devices.old.items ready.now.count) }
     ensures moved { OnOk result (devices.new.items ≡ []) }
-    ensures err { IfErr result (FailsToOpen ready.now.image (windows_for D.window_size devices.old.items)) }
+    ensures err { IfErr result (FailsToOpen ready.now.image ready.now.guests (windows_for D.window_size devices.old.items)) }
     ensures back { OnErr result (devices.new.items ≡ devices.old.items) }
 {
     let handed = mem::replace(devices, Vec::new(alloc));
-    let guests = Guests::new(alloc);
-    match MachineOf::open(alloc, &ready.image, &guests, 16, 1, handed, ready.count) {
+    let count = ready.count;
+    match MachineOf::open(alloc, &ready.image, &ready.guests, 16, 1, handed, count) {
         Ok(machine) => Ok(machine),
         Err(fault) => {
             let OpenFaultOf {

@@ -3,6 +3,7 @@
 ghost use Rattle.std.specs.Prelude.{◌≡◌};
 ghost use Rattle.radix_top.specs.Statuses.{refused_status, ended_status};
 
+use asm_places::AsmKind;
 use elf_image::{ElfFault, Span};
 use journal_core::{Ended, RowKind, StopName};
 use ppc_bus::PlugReason;
@@ -22,8 +23,10 @@ pub enum Status {
     BadImage(ElfFault),
     /// The file is not a schedule, from this byte on.
     BadSchedule(usize),
-    /// The first range of addresses that the image takes and has no place for, and RAM where it leaves that, else the earlier
-    /// range that it meets.
+    /// The source is wrong in this line, from 1, or as a whole where the line is 0; and what is wrong.
+    BadAsm(u32, AsmKind),
+    /// The first range of addresses that the image and then the guests take and have no place for, and RAM where it leaves
+    /// that, else the earlier range that it meets.
     BadPlace(Span, Span),
     /// The device with this number, from 0, cannot be plugged, for this reason.
     BadDevice(usize, PlugReason),
@@ -50,8 +53,10 @@ pub enum Refusal {
     BadImage(ElfFault),
     /// The file is not a schedule, from this byte on.
     BadSchedule(usize),
-    /// The first range of addresses that the image takes and has no place for, and RAM where it leaves that, else the earlier
-    /// range that it meets.
+    /// The source is wrong in this line, from 1, or as a whole where the line is 0; and what is wrong.
+    BadAsm(u32, AsmKind),
+    /// The first range of addresses that the image and then the guests take and have no place for, and RAM where it leaves
+    /// that, else the earlier range that it meets.
     BadPlace(Span, Span),
     /// The device with this number, from 0, cannot be plugged, for this reason.
     BadDevice(usize, PlugReason),
@@ -69,6 +74,7 @@ pub fn refused_status(refusal: Refusal) -> Status
         Refusal::TooLong(place) => Status::TooLong(place),
         Refusal::BadImage(fault) => Status::BadImage(fault),
         Refusal::BadSchedule(place) => Status::BadSchedule(place),
+        Refusal::BadAsm(line, kind) => Status::BadAsm(line, kind),
         Refusal::BadPlace(range, other) => Status::BadPlace(range, other),
         Refusal::BadDevice(number, reason) => Status::BadDevice(number, reason),
         Refusal::Memory => Status::Memory,
