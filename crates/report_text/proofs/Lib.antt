@@ -1,3 +1,4 @@
 mod ThreadTexts
 mod WordLemmas
 mod ConsoleLemmas
+mod ListingLemmas

@@ -5,3 +5,4 @@ pub mod StepText
 pub mod AccessText
 pub mod ConsoleText
 pub mod Report
+pub mod Listing

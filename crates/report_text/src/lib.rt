@@ -4,15 +4,19 @@
 mod access_lines;
 mod consoles;
 mod head;
+mod listing;
 mod report;
 mod step_ends;
 mod step_lines;
 mod thread_lines;
 mod words;
 
+pub use listing::print_listing;
 pub use report::{ReportParts, print_report};
 pub use step_ends::{LineEnd, line_end};
 
+#[cfg(test)]
+mod listing_tests;
 #[cfg(test)]
 mod row_tests;
 #[cfg(test)]
