@@ -1,12 +1,15 @@
 -- Words of guests are cut at an `@`.
-use Rattle.std.proofs.Common.{◌≡◌, ℕ, zero, suc, ◌+◌, ◌<◌, nat_lt, Bool, true, false, cond, eqb, ◌&&◌, List, [], ◌∷◌, ◌++◌, length, drop, Option, Some, None, Ok, Err, refl, sym, ap, ◌∙◌, arith, length-append, append_assoc, subst}
-use Rattle.std.specs.Prelude.{Result, string_bytes, slice_index, option_map}
+use Rattle.std.proofs.Common.{◌≡◌, ℕ, zero, suc, ◌+◌, ◌-◌, ◌<◌, Bool, true, false, cond, eqb, List, [], ◌∷◌, ◌++◌, length, take, drop, Option, Some, None, Ok, Err, get_or, refl, sym, ap, ◌∙◌, arith, length-append, append_assoc, subst}
+use Rattle.std.specs.Prelude.{Result, string_bytes, slice_index, option_map, option_and_then, nat_le, IfOk, ◌≤◌}
 use Rattle.std.proofs.lemmas.Bool.Decides.{nat_tests}
+use Rattle.std.proofs.lemmas.List.{take_rest}
 use Rattle.number_text.specs.Hex.{short_hex}
+use Rattle.number_text.specs.Number.{number_of, up_to}
+use Rattle.radix_top.specs.declared.command.Command.{Command}
 use Rattle.radix_top.specs.declared.command.Command.TheVariants.{Run}
 use Rattle.radix_top.specs.declared.command.Options.{Options}
 use Rattle.radix_top.specs.declared.guest_words.GuestWord.{GuestWord}
-use Rattle.radix_top.specs.Words.{Text, word_at, last_at, guest, cut_at, guest_of, asks_for_trace, announces_guest, with_trace, with_guest, options_of, no_options, or_fault, ◌>>=◌, IsCut, AreCut}
+use Rattle.radix_top.specs.Words.{Text, word_at, last_at, guest, cut_at, guest_of, asks_for_trace, announces_guest, with_trace, with_guest, options_of, no_options, or_fault, ◌>>=◌, count_of, run_of, IsCut, AreCut, IsWellNamed}
 
 -- a trace is asked for, whatever stands behind
 pub options_trace : (place : ℕ) (before : Options) (w : Text) (rest : List Text) → asks_for_trace before w ≡ true → options_of place before (w ∷ rest) ≡ options_of (place + 1) (with_trace before) rest
@@ -21,7 +24,7 @@ options_other place before w (v ∷ ws) asks none = rw (asks, none) refl
 same_byte : (a b : ℕ) → eqb a b ≡ true → a ≡ b
 same_byte a b e = grind (arith, nat_tests)
 
-last_at-is : (bytes : List ℕ) (n k : ℕ) → last_at bytes n ≡ Some k → (k < n) × (slice_index bytes k ≡ 64)
+pub last_at-is : (bytes : List ℕ) (n k : ℕ) → last_at bytes n ≡ Some k → (k < n) × (slice_index bytes k ≡ 64)
 last_at-is bytes zero k e = cc
 last_at-is bytes (suc n) k e = by (eqb (slice_index bytes n) 64) refl (last_at-is bytes n k) e
   where
@@ -102,3 +105,56 @@ options_cut words front (w ∷ v ∷ ws) place before options all there cut e =
 -- guests of a run's options are cut
 pub run_cut : (run image schedule count : Text) (more : List Text) (options : Options) → options_of 4 no_options more ≡ Ok options → AreCut (run ∷ image ∷ schedule ∷ count ∷ more) options.guests
 run_cut run image schedule count more options e = options_cut (run ∷ image ∷ schedule ∷ count ∷ more) (run ∷ image ∷ schedule ∷ count ∷ []) more 4 no_options options refl refl tt e
+
+-- a word that asks for a trace was read
+pub trace_read : (place : ℕ) (before : Options) (words : List Text) (w : Text) → 0 < length words → w ≡ get_or words 0 w → asks_for_trace before w ≡ true
+    → options_of (place + 1) (with_trace before) (take (length words - 1) (drop 1 words)) ≡ options_of place before words
+trace_read place before [] w some is asks = absurd (omega arith)
+trace_read place before (v ∷ vs) w some is asks = ap (options_of (place + 1) (with_trace before)) (take_rest (v ∷ vs) 1) ∙ sym (options_trace place before v vs (rw is at asks))
+
+-- a word that announces a guest was read, and the guest's word
+pub guest_read : (place : ℕ) (before : Options) (words rest : List Text) (w v : Text) (g : GuestWord) → 0 < length words → w ≡ get_or words 0 w → rest ≡ take (length words - 1) (drop 1 words) → 0 < length rest → v ≡ get_or rest 0 v
+    → asks_for_trace before w ≡ false → announces_guest before w ≡ true → guest_of (place + 1) v ≡ Some g
+    → options_of (place + 2) (with_guest before g) (take (length rest - 1) (drop 1 rest)) ≡ options_of place before words
+guest_read place before [] rest w v g some is all more next asks announces cut = absurd (omega arith)
+guest_read place before (x ∷ []) rest w v g some is all more next asks announces cut = absurd (omega (arith, ap length all))
+guest_read place before (x ∷ y ∷ ys) rest w v g some is all more next asks announces cut =
+    let behind : rest ≡ y ∷ ys = all ∙ take_rest (x ∷ y ∷ ys) 1 in
+    let first : w ≡ x = is in
+    let second : v ≡ y = next ∙ ap (λ (l : List Text). get_or l 0 v) behind in
+    let more_behind : take (length rest - 1) (drop 1 rest) ≡ ys = ap (λ (l : List Text). take (length l - 1) (drop 1 l)) behind ∙ take_rest (y ∷ ys) 1 in
+    rw (more_behind, ← first, asks, announces, ← second, cut) refl
+
+few_steps : (w : Text) (n : ℕ) → count_of w ≡ Some n → n ≤ 1048576
+few_steps w n e = by (number_of (string_bytes w)) e
+  where
+    below : (m : ℕ) → nat_le m 1048576 ≡ true → m ≤ 1048576
+    below m t = grind (arith, nat_tests)
+
+    test : (m : ℕ) (t : Bool) → nat_le m 1048576 ≡ t → cond t (Some m) None ≡ Some n → n ≤ 1048576
+    test m true is f = let same : m ≡ n = cc in omega (arith, same, below m is)
+    test m false is f = cc
+
+    by : (o : Option ℕ) → option_and_then (up_to 1048576) o ≡ Some n → n ≤ 1048576
+    by None f = cc
+    by (Some m) f = test m (nat_le m 1048576) refl f
+
+-- a run's words are long enough, it has at most the most steps, and its guests' words are cut
+pub run_named : (words : List Text) (w : Text) (r : Result Command ℕ) → 0 < length words → w ≡ get_or words 0 w → r ≡ run_of (take (length words - 1) (drop 1 words)) → IfOk r (IsWellNamed words)
+run_named [] w r some first is = absurd (omega arith)
+run_named (v ∷ []) w r some first is = rw (is ∙ ap run_of (take_rest (v ∷ []) 1)) tt
+run_named (v ∷ image ∷ []) w r some first is = rw (is ∙ ap run_of (take_rest (v ∷ image ∷ []) 1)) tt
+run_named (v ∷ image ∷ schedule ∷ []) w r some first is = rw (is ∙ ap run_of (take_rest (v ∷ image ∷ schedule ∷ []) 1)) tt
+run_named (v ∷ image ∷ schedule ∷ count ∷ more) w r some first is = rw (is ∙ ap run_of (take_rest (v ∷ image ∷ schedule ∷ count ∷ more) 1)) (by (count_of count) refl)
+  where
+    long : 3 < length (v ∷ image ∷ schedule ∷ count ∷ more)
+    long = omega arith
+
+    options : (n : ℕ) → n ≤ 1048576 → (o : Result Options ℕ) → options_of 4 no_options more ≡ o → IfOk (o >>= (λ options. Ok (Run n options))) (IsWellNamed (v ∷ image ∷ schedule ∷ count ∷ more))
+    options n le (Ok o) e = (long, le, run_cut v image schedule count more o e)
+    options n le (Err p) e = tt
+
+    by : (o : Option ℕ) → count_of count ≡ o → IfOk (or_fault o 3 >>= (λ n. options_of 4 no_options more >>= (λ options. Ok (Run n options)))) (IsWellNamed (v ∷ image ∷ schedule ∷ count ∷ more))
+    by None e = tt
+    by (Some n) e = options n (few_steps count n e) (options_of 4 no_options more) refl
+

@@ -1,5 +1,5 @@
 -- Commands that were done.
-use Rattle.std.proofs.Common.{◌≡◌, ℕ, List, Option, Some, None, Ok, refl, sym, inr, subst}
+use Rattle.std.proofs.Common.{◌≡◌, ℕ, List, Option, None, Ok, refl, sym, inr, subst}
 use Rattle.outer_io.specs.Outside.{added}
 use Rattle.journal_core.specs.declared.rows.Ended.{Ended}
 use Rattle.journal_core.specs.declared.rows.Ended.TheVariants as ends

@@ -1,6 +1,7 @@
 -- Refusals and their causes.
-use Rattle.std.proofs.Common.{◌≡◌, ℕ, ◌<◌, ◌≤◌, List, [], ◌∷◌, length, Option, Ok, refl, sym, inl, inr, subst}
-use Rattle.std.specs.Prelude.{IfSome}
+use Rattle.std.proofs.Common.{◌≡◌, ℕ, ◌<◌, ◌≤◌, ◌-◌, List, [], ◌∷◌, ◌++◌, length, map, take, drop, get_or, Option, Ok, Err, refl, sym, ap, ◌∙◌, inl, inr, subst, arith, append_assoc}
+use Rattle.std.specs.Prelude.{IfSome, IfErr, OnOk, Result}
+use Rattle.std.proofs.lemmas.List.{take_rest}
 use Rattle.outer_io.specs.Outside.{Asked, added}
 use Rattle.outer_io.proofs.Printing.{rose_then}
 use Rattle.elf_image.specs.declared.image.Image.{Image}
@@ -11,6 +12,8 @@ use Rattle.sched_text.specs.Plan.{Plan}
 use Rattle.sched_text.specs.Reading.{plan_of}
 use Rattle.ppc_bus.specs.Windows.{Window}
 use Rattle.radix_top.specs.declared.command.Command.{Command}
+use Rattle.radix_top.specs.declared.command.Command.TheVariants.{Run}
+use Rattle.radix_top.specs.declared.command.Options.{Options}
 use Rattle.radix_top.specs.declared.guest_words.GuestWord.{GuestWord}
 use Rattle.radix_top.specs.declared.status.Refusal.{Refusal}
 use Rattle.radix_top.specs.declared.status.Refusal.TheVariants as refusals
@@ -18,11 +21,12 @@ use Rattle.radix_top.specs.declared.status.Status.{Status}
 use Rattle.radix_top.specs.declared.status.Status.TheVariants as statuses
 use Rattle.radix_top.specs.Statuses.{refused_status}
 use Rattle.radix_top.specs.Words.{Text, word_at, guest_name, command_of}
-use Rattle.radix_top.specs.Inputs.{FilesSeen, met, most, FileWord, image_word, schedule_word, guest_file, files_of, IsGood, IsGoodFile, ReachesIn, Reaches, FileFails, FailsAmong, IsGuest, AreGuests, AsksFor}
+use Rattle.radix_top.specs.Inputs.{FilesSeen, met, most, FileWord, image_word, schedule_word, guest_file, files_of, IsGood, IsGoodFile, ReachesIn, Reaches, FileFails, FailsAmong, WasRead, last_name, IsGuest, AreGuests, AsksFor}
 use Rattle.radix_top.specs.Devices.{DevicesSeen}
 use Rattle.radix_top.specs.Causes.{HasCause, fault_line}
 use Rattle.radix_top.specs.Calls.{BenchSeen, Says, WasNotRun, WasRefused}
 use Rattle.radix_top.specs.Printed.{PrintsAs, FailsToOpen}
+use Rattle.radix_top.specs.Prepared.{IsReady}
 use Rattle.radix_top.proofs.Files.{weaker}
 
 -- a file that a command comes to read and that fails is the cause
@@ -103,6 +107,66 @@ guests_later told told' first mid last asked words [] (h ∷ hs) same are = are
 guests_later told told' first mid last asked words (g ∷ gs) [] same are = are
 guests_later told told' first mid last asked words (g ∷ gs) (h ∷ hs) same are =
     ((are.0.0, told_first told told' (guest_name words g) (λ bytes. (length bytes ≤ most) × (h.bytes ≡ bytes)) (same (guest_name words g)) are.0.1), guests_later told told' first mid last asked words gs hs same are.1)
+
+-- a guest and those behind it
+pub guests_ok : {X : Type 0} (r : Result X Refusal) (told told' : List ℕ → Option (List ℕ)) (first mid last : ℕ) (asked asked' : Option Asked) (words : List Text) (gws : List GuestWord) (d : GuestWord) (h : Guest) (old between new : List Guest) →
+    0 < length gws → ((n : List ℕ) → told' n ≡ told n) → IsGuest (met told first mid asked') words (get_or gws 0 d) h → between ≡ old ++ h ∷ [] →
+    OnOk r ((more : List Guest) × (new ≡ between ++ more) × AreGuests (met told' mid last asked) words (take (length gws - 1) (drop 1 gws)) more) →
+    OnOk r ((more : List Guest) × (new ≡ old ++ more) × AreGuests (met told first last asked) words gws more)
+guests_ok r told told' first mid last asked asked' words [] d h old between new some same guest pushed rest = absurd (omega arith)
+guests_ok (Err e) told told' first mid last asked asked' words (g ∷ gs) d h old between new some same guest pushed rest = rest
+guests_ok (Ok x) told told' first mid last asked asked' words (g ∷ gs) d h old between new some same guest pushed rest =
+    let behind : AreGuests (met told' mid last asked) words gs rest.0 = subst (λ (l : List GuestWord). AreGuests (met told' mid last asked) words l rest.0) (take_rest (g ∷ gs) 1) rest.2 in
+    let whole : new ≡ old ++ h ∷ rest.0 = rest.1 ∙ ap (λ (l : List Guest). l ++ rest.0) pushed ∙ append_assoc old (h ∷ []) rest.0 in
+    (h ∷ rest.0, whole, (guest, guests_later told told' first mid last asked words gs rest.0 same behind))
+
+-- one of the guests behind a good one fails
+pub guests_err : {X : Type 0} (r : Result X Refusal) (told told' : List ℕ → Option (List ℕ)) (first mid last : ℕ) (asked asked' : Option Asked) (words : List Text) (gws : List GuestWord) (d : GuestWord) (h : Guest) →
+    0 < length gws → ((n : List ℕ) → told' n ≡ told n) → first ≤ mid → IsGuest (met told first mid asked') words (get_or gws 0 d) h →
+    IfErr r (FailsAmong (met told' mid last asked) (map (guest_file words) (take (length gws - 1) (drop 1 gws)))) →
+    IfErr r (FailsAmong (met told first last asked) (map (guest_file words) gws))
+guests_err r told told' first mid last asked asked' words [] d h some same le guest fails = absurd (omega arith)
+guests_err (Ok x) told told' first mid last asked asked' words (g ∷ gs) d h some same le guest fails = fails
+guests_err (Err r) told told' first mid last asked asked' words (g ∷ gs) d h some same le guest fails =
+    let behind : FailsAmong (met told' mid last asked) (map (guest_file words) gs) r = subst (λ (l : List GuestWord). FailsAmong (met told' mid last asked) (map (guest_file words) l) r) (take_rest (g ∷ gs) 1) fails in
+    let good : IsGoodFile (met told first last asked) (guest_file words g) = good_guest (met told first last asked) words g h guest in
+    later_fails (met told first last asked) (guest_file words g) (map (guest_file words) gs) r good (among_later told told' first mid last asked (map (guest_file words) gs) r same le behind)
+
+-- the schedule of a run fails, or one of its guests
+pub schedule_fails : (told told' : List ℕ → Option (List ℕ)) (first mid last : ℕ) (asked : Option Asked) (words : List Text) (count : ℕ) (options : Options) (image : Image) (r : Refusal) → ((n : List ℕ) → told' n ≡ told n) → first ≤ mid →
+    IfSome (told (word_at words 1)) (λ bytes. (length bytes ≤ most) × IsImage bytes image) → FileFails (met told' mid last asked) (schedule_word words) r → FailsAmong (met told first last asked) (files_of words (Run count options)) r
+schedule_fails told told' first mid last asked words count options image r same le good fails =
+    later_fails (met told first last asked) (image_word words) (schedule_word words ∷ map (guest_file words) options.guests) r (good_image (met told first last asked) words image good)
+    (first_fails (met told first last asked) (schedule_word words) (map (guest_file words) options.guests) r (fails_later told told' first mid last asked (schedule_word words) r same le fails))
+
+pub guests_fail : (told told' told'' : List ℕ → Option (List ℕ)) (first mid later last : ℕ) (asked : Option Asked) (words : List Text) (count : ℕ) (options : Options) (gws : List GuestWord) (image : Image) (plan : Plan) (r : Refusal) → gws ≡ options.guests →
+    ((n : List ℕ) → told' n ≡ told n) → ((n : List ℕ) → told'' n ≡ told' n) → first ≤ mid → mid ≤ later →
+    IfSome (told (word_at words 1)) (λ bytes. (length bytes ≤ most) × IsImage bytes image) → IfSome (told' (word_at words 2)) (λ bytes. (length bytes ≤ most) × (plan_of bytes ≡ Ok plan)) →
+    FailsAmong (met told'' later last asked) (map (guest_file words) gws) r → FailsAmong (met told first last asked) (files_of words (Run count options)) r
+guests_fail told told' told'' first mid later last asked words count options gws image plan r are same same' le le' good good' fails =
+    let m = met told first last asked in
+    let schedule = told_first told told' (word_at words 2) (λ bytes. (length bytes ≤ most) × (plan_of bytes ≡ Ok plan)) (same (word_at words 2)) good' in
+    later_fails m (image_word words) (schedule_word words ∷ map (guest_file words) options.guests) r (good_image m words image good)
+    (later_fails m (schedule_word words) (map (guest_file words) options.guests) r (good_schedule m words plan schedule)
+    (among_later told told'' first later last asked (map (guest_file words) options.guests) r (λ n. same' n ∙ same n) (omega (arith, le, le')) (subst (λ (l : List GuestWord). FailsAmong (met told'' later last asked) (map (guest_file words) l) r) are fails)))
+
+-- a run whose files were read
+pub ready_run : (told told' told'' : List ℕ → Option (List ℕ)) (first later last : ℕ) (asked : Option Asked) (words : List Text) (count : ℕ) (options : Options) (gws : List GuestWord) (image : Image) (plan : Plan) (none guests : List Guest) → gws ≡ options.guests →
+    ((n : List ℕ) → told' n ≡ told n) → ((n : List ℕ) → told'' n ≡ told' n) → command_of words ≡ Ok (Run count options) → count ≤ 1048576 →
+    IfSome (told (word_at words 1)) (λ bytes. (length bytes ≤ most) × IsImage bytes image) → IfSome (told' (word_at words 2)) (λ bytes. (length bytes ≤ most) × (plan_of bytes ≡ Ok plan)) → plan.threads ≡ 1 →
+    none ≡ [] → ((more : List Guest) × (guests ≡ none ++ more) × AreGuests (met told'' later last asked) words gws more) → WasRead (met told first last asked) (last_name (word_at words 2) words gws) →
+    IsReady (met told first last asked) words (record { count = count; options = options; image = image; schedule = plan; guests = guests })
+ready_run told told' told'' first later last asked words count options gws image plan none guests are same same' command few good good' one empty read last_read =
+    let all : guests ≡ read.0 = read.1 ∙ ap (λ (l : List Guest). l ++ read.0) empty in
+    record {
+      command = command;
+      few = few;
+      image = good;
+      schedule = told_first told told' (word_at words 2) (λ bytes. (length bytes ≤ most) × (plan_of bytes ≡ Ok plan)) (same (word_at words 2)) good';
+      one = one;
+      guests = subst (λ (l : List GuestWord). AreGuests (met told first last asked) words l guests) are (subst (AreGuests (met told first last asked) words gws) (sym all) (guests_later told told'' first later last asked words gws read.0 (λ n. same' n ∙ same n) read.2));
+      last_read = subst (λ (l : List GuestWord). WasRead (met told first last asked) (last_name (word_at words 2) words l)) are last_read;
+    }
 
 -- an image that is not opened with devices of these windows is the cause, where it is what the words ask for
 pub opening_cause : (m : FilesSeen) (words : List Text) (windows : List Window) (asks : AsksFor m words) (r : Refusal) → FailsToOpen asks.image asks.guests windows r → HasCause m words windows r

@@ -1,18 +1,13 @@
 -- A run that was asked for.
-use Rattle.std.proofs.Common.{◌≡◌, ℕ, ◌≤◌, List, [], length, Option, Some, Ok, refl, sym, ap, ◌∙◌, inr, subst, arith}
-use Rattle.std.specs.Prelude.{IfSome}
-use Rattle.outer_io.specs.Outside.{added}
+use Rattle.std.proofs.Common.{◌≡◌, ℕ, List, [], Option, Some, refl, ap, ◌∙◌, subst, arith}
 use Rattle.journal_core.specs.Rows.{JournalView}
 use Rattle.journal_core.specs.Past.{ram_before}
 use Rattle.journal_core.specs.declared.rows.Ended.{Ended}
-use Rattle.journal_core.specs.declared.rows.Ended.TheVariants as ends
 use Rattle.ppc_bus.specs.Answers.{DeviceAnswers}
 use Rattle.ppc_bus.proofs.ChainLemmas.{chain_answers}
 use Rattle.thread_regs.proofs.ResetLemmas.{length-reset_from}
 use Rattle.elf_image.specs.declared.image.Image.{Image}
 use Rattle.elf_image.specs.declared.guests.Guest.{Guest}
-use Rattle.elf_image.specs.IsImage.{IsImage}
-use Rattle.sched_text.specs.Reading.{plan_of}
 use Rattle.ppc_machine.specs.States.{State}
 use Rattle.ppc_machine.specs.Rule.{IsLawfulRun}
 use Rattle.ppc_machine.specs.declared.plugging.PluggedOf.{PluggedOf}
@@ -23,8 +18,6 @@ use Rattle.ppc_machine.specs.Machines.{RunsTo}
 use Rattle.radix_top.specs.declared.command.Command.TheVariants.{Run}
 use Rattle.radix_top.specs.declared.inputs.RunInputs.{RunInputs}
 use Rattle.radix_top.specs.declared.status.Status.{Status}
-use Rattle.radix_top.specs.declared.status.Status.TheVariants as statuses
-use Rattle.radix_top.specs.Statuses.{ended_status}
 use Rattle.radix_top.specs.Words.{Text}
 use Rattle.radix_top.specs.Inputs.{FilesSeen, AsksFor}
 use Rattle.radix_top.specs.Devices.{DevicesSeen, windows_in, DevicesAnswer}

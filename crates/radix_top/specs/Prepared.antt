@@ -1,5 +1,5 @@
 -- What a command has that read its files.
-use Rattle.std.specs.Prelude.{◌≡◌, ◌≤◌, ℕ, List, length, IfSome, Ok}
+use Rattle.std.specs.Prelude.{◌≡◌, ◌≤◌, List, length, IfSome, Ok}
 use Rattle.elf_image.specs.IsImage.{IsImage}
 use Rattle.sched_text.specs.Reading.{plan_of}
 use Rattle.radix_top.specs.declared.command.Command.TheVariants.{Run, Asm, Dis}

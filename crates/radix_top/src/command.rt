@@ -122,6 +122,7 @@ fn with_guest(before: Options, guest: GuestWord) -> Options
 }
 
 /// The options that words are, the first of which has the number `place`, behind those that were there before.
+#[tactic(auto, using(crate::proofs::CutWords::options_other))]
 fn read_options(place: usize, before: Options, words: &[String]) -> Result<Options, usize>
     requires { place + length words.now < 2 ^ 63 }
     ensures { result ≡ options_of place before words.now }
@@ -132,16 +133,16 @@ fn read_options(place: usize, before: Options, words: &[String]) -> Result<Optio
             if asks_for_trace(&before, word) {
                 return read_options(place + 1, with_trace(before), rest);
             }
-            if !announces_guest(&before, word) {
-                return Err(place);
+            if announces_guest(&before, word) {
+                return match rest {
+                    [] => Err(place + 1),
+                    [value, more @ ..] => match read_guest(place + 1, value) {
+                        None => Err(place + 1),
+                        Some(guest) => read_options(place + 2, with_guest(before, guest), more),
+                    },
+                };
             }
-            match rest {
-                [] => Err(place + 1),
-                [value, more @ ..] => match read_guest(place + 1, value) {
-                    None => Err(place + 1),
-                    Some(guest) => read_options(place + 2, with_guest(before, guest), more),
-                },
-            }
+            Err(place)
         }
     }
 }

@@ -62,9 +62,9 @@ pub(crate) fn read_word<F: Files>(
 }
 
 /// The name of a guest's file.
-fn guest_name<'a>(words: &'a [String], guest: GuestWord) -> &'a str
-    requires { IsCut words.now guest }
-    ensures { result.now ≡ guest_name words.now guest }
+fn guest_name<'a>(words: &'a [String], guest: &GuestWord) -> &'a str
+    requires { IsCut words.now guest.now }
+    ensures { result.now ≡ guest_name words.now guest.now }
 {
     let (name, _) = word(words, guest.place).split_at(guest.name_len);
     name
@@ -74,15 +74,15 @@ fn guest_name<'a>(words: &'a [String], guest: GuestWord) -> &'a str
 fn read_guest_file<F: Files>(
     alloc: Global,
     words: &[String],
-    guest: GuestWord,
+    guest: &GuestWord,
     files: &mut F,
 ) -> Result<Guest, Refusal>
-    requires { IsCut words.now guest }
+    requires { IsCut words.now guest.now }
     ensures same { (n : List ℕ) → F.told files.new n ≡ F.told files.old n }
     ensures counts { F.faults files.old ≤ F.faults files.new }
-    ensures ok { IfOk result (IsGuest (met (F.told files.old) (F.faults files.old) (F.faults files.new) (F.last files.new)) words.now guest) }
-    ensures last { IfOk result (λ h. WasRead (met (F.told files.old) (F.faults files.old) (F.faults files.new) (F.last files.new)) (guest_name words.now guest)) }
-    ensures err { IfErr result (FileFails (met (F.told files.old) (F.faults files.old) (F.faults files.new) (F.last files.new)) (guest_file words.now guest)) }
+    ensures ok { IfOk result (IsGuest (met (F.told files.old) (F.faults files.old) (F.faults files.new) (F.last files.new)) words.now guest.now) }
+    ensures last { IfOk result (λ h. WasRead (met (F.told files.old) (F.faults files.old) (F.faults files.new) (F.last files.new)) (guest_name words.now guest.now)) }
+    ensures err { IfErr result (FileFails (met (F.told files.old) (F.faults files.old) (F.faults files.new) (F.last files.new)) (guest_file words.now guest.now)) }
 {
     let bytes = read_named(alloc, guest_name(words, guest), guest.place, files)?;
     Ok(Guest {
@@ -109,7 +109,7 @@ pub(crate) fn read_guests<F: Files>(
     match guest_words {
         [] => Ok(()),
         [first, rest @ ..] => {
-            let guest = read_guest_file(alloc, words, *first, files)?;
+            let guest = read_guest_file(alloc, words, first, files)?;
             match guests.push(guest) {
                 Ok(()) => read_guests(alloc, words, rest, files, guests),
                 Err(_) => Err(Refusal::Memory),

@@ -1,6 +1,4 @@
 use Rattle.std.proofs.Common.{refl}
-use Rattle.outer_io.specs.declared.files.Answer.TheVariants as answers
-use Rattle.radix_top.specs.Inputs.{most}
 use Rattle.radix_top.proofs.Files.{read_whole}
 use Rattle.radix_top.proofs.guests.read_named.Goals as goal
 
