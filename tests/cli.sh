@@ -175,7 +175,7 @@ change_byte big_endian.elf 5 02
 expect_image Order 'not a little-endian ELF file' big_endian.elf
 "$top/tools/make_image.sh" 0xfffff8 0xfffff8 0x38600001 0x7C831A14 0x48000000 >beyond.elf
 expect 10 "fault place 0000000000fffff8 0000000001000004 0000000000000000 0000000001000000$line" \
-    "radix: 'beyond.elf': addresses fffff8 to 1000004 have no place in RAM, or beside 0 to 1000000 $see$line" run beyond.elf first.sched 3
+    "radix: 'beyond.elf': addresses fffff8 to 1000004 leave RAM, 0 to 1000000 $see$line" run beyond.elf first.sched 3
 "$top/tools/make_image.sh" 0xfffff4 0xfffff4 0x38600001 0x7C831A14 0x48000000 >last.elf
 last=${report/nia 0000000000010008/nia 0000000000fffffc}
 expect 0 "${last/r12 0000000000010000/r12 0000000000fffff4}" '' run last.elf first.sched 3
@@ -277,7 +277,7 @@ printf '\x02' | dd of=twice.elf bs=1 seek=56 conv=notrunc status=none
 expect_image 'Overlap 0 1' 'the segments of headers 0 and 1 have a common address' twice.elf
 "$top/tools/make_image.sh" 0 0xfffffffffffffff8 0x38600001 0x48000000 >highest.elf
 expect 10 "fault place fffffffffffffff8 ffffffffffffffff 0000000000000000 0000000001000000$line" \
-    "radix: 'highest.elf': addresses fffffffffffffff8 to ffffffffffffffff have no place in RAM, or beside 0 to 1000000 $see$line" run highest.elf first.sched 3
+    "radix: 'highest.elf': addresses fffffffffffffff8 to ffffffffffffffff leave RAM, 0 to 1000000 $see$line" run highest.elf first.sched 3
 "$top/tools/make_image.sh" 0x10000 0x10000 0x3C800002 0x7C0027EC 0x4BFFFFFC >blocks.elf
 "$program" run blocks.elf first.sched 1048576 >out 2>err
 [ $? -eq 14 ] || fail 'exit status of a journal full of writes' 14 other

@@ -1,29 +1,28 @@
 -- What a call says of its devices, said of what contracts see of them.
 use Rattle.std.proofs.Common.{◌≡◌, ◌⊎◌, inl, inr, ℕ, zero, suc, List, [], ◌∷◌, map, Option, Some, None, refl, sym, ap, subst, ◌∙◌}
-use Rattle.outer_io.specs.Outside.{Asked, CountRose}
+use Rattle.outer_io.specs.Outside.{Asked}
 use Rattle.journal_core.specs.declared.rows.DeviceRow.{DeviceRow}
 use Rattle.journal_core.specs.declared.rows.Ended.{Ended}
 use Rattle.journal_core.specs.declared.rows.Ended.TheVariants as ends
 use Rattle.ppc_bus.specs.declared.slots.Slot.{Slot}
-use Rattle.ppc_bus.specs.Devices.{Access, Reply}
+use Rattle.ppc_bus.specs.Devices.{Access}
 use Rattle.ppc_bus.specs.Windows.{Window, windows_of}
 use Rattle.ppc_bus.specs.Slots.{slot_in}
 use Rattle.ppc_bus.specs.SlotRows.{rows_of, SlotAnswersOf}
 use Rattle.ppc_machine.specs.declared.plugging.PluggedOf.{PluggedOf}
 use Rattle.ppc_machine.specs.Plugging.{windows_for, slots_for}
-use Rattle.ppc_machine.specs.MachineView.{MachineView, now_of, start_of}
-use Rattle.ppc_machine.specs.Opening.{start}
-use Rattle.ppc_machine.specs.Rule.{IsLawfulRun}
-use Rattle.ppc_machine.specs.States.{state_of}
+use Rattle.ppc_machine.specs.MachineView.{MachineView, start_of}
+use Rattle.radix_top.specs.declared.command.Command.{Command}
+use Rattle.radix_top.specs.declared.command.Command.TheVariants.{Run, Asm, Dis}
 use Rattle.radix_top.specs.declared.status.Refusal.{Refusal}
 use Rattle.radix_top.specs.declared.status.Refusal.TheVariants as refusals
 use Rattle.radix_top.specs.declared.status.Status.{Status}
 use Rattle.radix_top.specs.declared.status.Status.TheVariants as statuses
 use Rattle.radix_top.specs.Words.{Text}
 use Rattle.radix_top.specs.Inputs.{FilesSeen, met}
-use Rattle.radix_top.specs.Devices.{DevicesSeen, handed, windows_in, DevicesAnswer}
-use Rattle.radix_top.specs.Causes.{HasCause, ram_mib}
-use Rattle.radix_top.specs.Calls.{BenchSeen, leaves, IsLawfulFrom, IsRunOf, WasRun, WasNotRun, Says, Ran, WasRefused, CutLine, CutReport}
+use Rattle.radix_top.specs.Devices.{DevicesSeen}
+use Rattle.radix_top.specs.Causes.{HasCause}
+use Rattle.radix_top.specs.Calls.{BenchSeen, leaves, IsLawfulFrom, IsRunOf, WasRun, WasNotRun, RunsNothing, Makes, Made, Says, WasDone, WasRefused, CutLine, CutText}
 use Rattle.radix.specs.Answering.{Answers, WereHanded}
 use Rattle.bench_devices.specs.Benches.{console_list, console_answers, control_answers, tape_answers}
 use Rattle.radix.specs.Standard.{AreStandard}
@@ -100,31 +99,43 @@ not_run_view m words d left r was = record {
   cause = subst (λ (ws : List Window). HasCause m words ws r) (sym (same_windows d d.devices)) was.cause;
 }
 
-ran_view : {D : Type 0} (m : FilesSeen) (words : List Text) (d : DevicesSeen D) (left : BenchSeen D) (old new : Option (List ℕ)) (end : Ended) → Ran m words d left old new end → Ran m words (seen (views d d.devices)) (bench_view d left) old new end
-ran_view m words d left old new end ran = record { was_run = was_run_view m words d left end ran.was_run; printed = ran.printed }
+nothing_view : {D : Type 0} (d : DevicesSeen D) (left : BenchSeen D) (end : Ended) → RunsNothing d left end → RunsNothing (seen (views d d.devices)) (bench_view d left) end
+nothing_view d left end nothing = (ap (bench_view d) nothing.0, nothing.1)
+
+makes_view : {D : Type 0} (m : FilesSeen) (words : List Text) (d : DevicesSeen D) (left : BenchSeen D) (end : Ended) (text : List ℕ) (command : Command) → Makes m words d left end text command → Makes m words (seen (views d d.devices)) (bench_view d left) end text command
+makes_view m words d left end text (Run count options) makes = record { was_run = was_run_view m words d left end makes.was_run; report = makes.report }
+makes_view m words d left end text Asm makes = (nothing_view d left end makes.0, makes.1)
+makes_view m words d left end text Dis makes = (nothing_view d left end makes.0, makes.1)
+
+abbrev made_view : {D : Type 0} (m : FilesSeen) (words : List Text) (d : DevicesSeen D) (left : BenchSeen D) (end : Ended) (text : List ℕ) → Made m words d left end text → Made m words (seen (views d d.devices)) (bench_view d left) end text
+made_view m words d left end text made = record { command = made.command; is_command = made.is_command; makes = makes_view m words d left end text made.command made.makes }
+
+done_view : {D : Type 0} (m : FilesSeen) (words : List Text) (d : DevicesSeen D) (left : BenchSeen D) (old new : Option (List ℕ)) (end : Ended) → WasDone m words d left old new end → WasDone m words (seen (views d d.devices)) (bench_view d left) old new end
+done_view m words d left old new end done = record { text = done.text; made = made_view m words d left end done.text done.made; printed = done.printed }
 
 refused_view : {D : Type 0} (m : FilesSeen) (words : List Text) (d : DevicesSeen D) (left : BenchSeen D) (old new : Option (List ℕ)) (r : Refusal) → WasRefused m words d left old new r → WasRefused m words (seen (views d d.devices)) (bench_view d left) old new r
 refused_view m words d left old new r was = record { not_run = not_run_view m words d left r was.not_run; printed = was.printed }
 
-cut_view : {D : Type 0} (m : FilesSeen) (words : List Text) (d : DevicesSeen D) (left : BenchSeen D) (old new : Option (List ℕ)) → CutLine m words d left old new ⊎ CutReport m words d left old new →
-    CutLine m words (seen (views d d.devices)) (bench_view d left) old new ⊎ CutReport m words (seen (views d d.devices)) (bench_view d left) old new
+cut_view : {D : Type 0} (m : FilesSeen) (words : List Text) (d : DevicesSeen D) (left : BenchSeen D) (old new : Option (List ℕ)) → CutLine m words d left old new ⊎ CutText m words d left old new →
+    CutLine m words (seen (views d d.devices)) (bench_view d left) old new ⊎ CutText m words (seen (views d d.devices)) (bench_view d left) old new
 cut_view m words d left old new (inl cut) = inl (record { refusal = cut.refusal; not_run = not_run_view m words d left cut.refusal cut.not_run; front = cut.front })
-cut_view m words d left old new (inr cut) = inr (record { end = cut.end; was_run = was_run_view m words d left cut.end cut.was_run; front = cut.front })
+cut_view m words d left old new (inr cut) = inr (record { end = cut.end; text = cut.text; made = made_view m words d left cut.end cut.text cut.made; front = cut.front })
 
 -- what is said of a call is said of the views of its devices
 says_view : {D : Type 0} (m : FilesSeen) (words : List Text) (d : DevicesSeen D) (left : BenchSeen D) (f f' : ℕ) (old new : Option (List ℕ)) (s : Status) → Says m words d left f f' old new s → Says m words (seen (views d d.devices)) (bench_view d left) f f' old new s
-says_view m words d left f f' old new (statuses.Done ends.AllRun) says = ran_view m words d left old new _ says
-says_view m words d left f f' old new (statuses.Done ends.ScheduleEnd) says = ran_view m words d left old new _ says
+says_view m words d left f f' old new (statuses.Done ends.AllRun) says = done_view m words d left old new _ says
+says_view m words d left f f' old new (statuses.Done ends.ScheduleEnd) says = done_view m words d left old new _ says
 says_view m words d left f f' old new (statuses.Done (ends.Stopped name value)) says = absurd says
 says_view m words d left f f' old new (statuses.Done (ends.JournalFull kind count)) says = absurd says
-says_view m words d left f f' old new (statuses.Stopped name value) says = ran_view m words d left old new _ says
-says_view m words d left f f' old new (statuses.JournalFull kind count) says = ran_view m words d left old new _ says
+says_view m words d left f f' old new (statuses.Stopped name value) says = done_view m words d left old new _ says
+says_view m words d left f f' old new (statuses.JournalFull kind count) says = done_view m words d left old new _ says
 says_view m words d left f f' old new statuses.WriteFault says = (says.0, cut_view m words d left old new says.1)
 says_view m words d left f f' old new (statuses.Usage place) says = refused_view m words d left old new (refusals.Usage place) says
 says_view m words d left f f' old new (statuses.ReadFault place) says = refused_view m words d left old new (refusals.ReadFault place) says
 says_view m words d left f f' old new (statuses.TooLong place) says = refused_view m words d left old new (refusals.TooLong place) says
 says_view m words d left f f' old new (statuses.BadImage fault) says = refused_view m words d left old new (refusals.BadImage fault) says
 says_view m words d left f f' old new (statuses.BadSchedule place) says = refused_view m words d left old new (refusals.BadSchedule place) says
+says_view m words d left f f' old new (statuses.BadAsm line kind) says = refused_view m words d left old new (refusals.BadAsm line kind) says
 says_view m words d left f f' old new (statuses.BadPlace range other) says = refused_view m words d left old new (refusals.BadPlace range other) says
 says_view m words d left f f' old new (statuses.BadDevice number reason) says = refused_view m words d left old new (refusals.BadDevice number reason) says
 says_view m words d left f f' old new statuses.Memory says = refused_view m words d left old new refusals.Memory says

@@ -1,7 +1,7 @@
 -- The exit status of the program.
 use Rattle.std.specs.Prelude.{ℕ}
 use Rattle.radix_top.specs.declared.status.Status.{Status}
-use Rattle.radix_top.specs.declared.status.Status.TheVariants.{Done, Usage, ReadFault, TooLong, BadImage, BadSchedule, BadPlace, BadDevice, WriteFault, Memory, Stopped, JournalFull}
+use Rattle.radix_top.specs.declared.status.Status.TheVariants.{Done, Usage, ReadFault, TooLong, BadImage, BadSchedule, BadAsm, BadPlace, BadDevice, WriteFault, Memory, Stopped, JournalFull}
 
 -- by how the call ended
 abbrev pub exit_of : Status → ℕ
@@ -11,6 +11,7 @@ exit_of (ReadFault _) = 3
 exit_of (TooLong _) = 4
 exit_of (BadImage _) = 5
 exit_of (BadSchedule _) = 6
+exit_of (BadAsm _ _) = 7
 exit_of (BadPlace _ _) = 10
 exit_of WriteFault = 11
 exit_of Memory = 12

@@ -1,5 +1,5 @@
 -- The devices of the program as contracts see them.
-use Rattle.std.specs.Prelude.{ℕ, List, map}
+use Rattle.std.specs.Prelude.{ℕ, List}
 use Rattle.ppc_bus.specs.Devices.{Access, Reply}
 use Rattle.ppc_machine.specs.declared.plugging.PluggedOf.{PluggedOf}
 use Rattle.radix_top.specs.Devices.{DevicesSeen, handed}

@@ -16,6 +16,7 @@ pub fn exit_code(status: Status) -> u8
         Status::TooLong(_) => 4,
         Status::BadImage(_) => 5,
         Status::BadSchedule(_) => 6,
+        Status::BadAsm(_, _) => 7,
         Status::BadPlace(_, _) => 10,
         Status::WriteFault => 11,
         Status::Memory => 12,

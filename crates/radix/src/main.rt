@@ -12,6 +12,7 @@ mod places;
 mod quoted;
 mod real_files;
 mod real_sink;
+mod source_fault;
 mod standard;
 mod usage;
 

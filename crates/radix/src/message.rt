@@ -4,9 +4,10 @@ use crate::image_fault::ImageFault;
 use crate::last_step::{LastStep, Stop, rows_of};
 use crate::places::{BadPlace, PlugFault};
 use crate::quoted::Quoted;
+use crate::source_fault::SourceFault;
 use crate::usage::WrongWord;
 use elf_image::ElfFault;
-use radix_top::Status;
+use radix_top::{Command, Status, read_command};
 use std::fmt;
 use std::io::ErrorKind;
 
@@ -19,8 +20,8 @@ pub struct Story {
     pub last: Option<LastStep>,
 }
 
-/// The text that standard error gets for a call with these words and this status. It is empty for a run that made
-/// all its steps, and for output that could not be written.
+/// The text that standard error gets for a call with these words and this status. It is empty for a command that was
+/// done, and for output that could not be written.
 #[derive(Drop)]
 pub struct Message<'a> {
     /// The words after the program's name.
@@ -31,13 +32,60 @@ pub struct Message<'a> {
     pub story: Story,
 }
 
-/// The word with a number, or no text, in quotes.
+/// Whether the word with this number is a guest's.
+fn is_guest(words: &[String], place: usize) -> bool {
+    place > 4
+        && words
+            .get(place - 1)
+            .is_some_and(|word| word.as_str() == "--guest")
+}
+
+/// The name of the file that the word with a number names, or no text, in quotes.
 fn quoted_at(words: &[String], place: usize) -> Quoted<'_> {
-    match words.get(place) {
-        Some(word) => Quoted {
-            text: word.as_str(),
-        },
-        None => Quoted { text: "" },
+    let Some(word) = words.get(place) else {
+        return Quoted { text: "" };
+    };
+    let text = word.as_str();
+    if is_guest(words, place)
+        && let Some((name, _)) = text.rsplit_once('@')
+    {
+        return Quoted { text: name };
+    }
+    Quoted { text }
+}
+
+/// The number of the word of the first guest that begins at an address, if there is one.
+fn guest_at(words: &[String], at: u64) -> Option<usize> {
+    let Ok(Command::Run { options, .. }) = read_command(words) else {
+        return None;
+    };
+    for guest in options.guests.as_slice() {
+        if guest.at == at {
+            return Some(guest.place);
+        }
+    }
+    None
+}
+
+/// Says what has no place: the image, or the guest that begins there.
+fn write_place<W: fmt::Write>(
+    f: &mut fmt::Formatter<W>,
+    words: &[String],
+    place: BadPlace,
+) -> fmt::Result {
+    match guest_at(words, place.range.from) {
+        Some(word) => {
+            let name = quoted_at(words, word);
+            let at = place.range.from;
+            writeln!(
+                f,
+                "radix: the guest {name} at {at:x}: {place} (docs/FORMATS.md, \"Guests\")"
+            )
+        }
+        None => {
+            let name = quoted_at(words, 1);
+            writeln!(f, "radix: {name}: {place} (docs/FORMATS.md, \"The image\")")
+        }
     }
 }
 
@@ -103,11 +151,12 @@ impl<'a> fmt::Display for Message<'a> {
                 let fault = ImageFault { fault };
                 writeln!(f, "radix: {name}: {fault} (docs/FORMATS.md, \"The image\")")
             }
-            Status::BadPlace(range, other) => {
+            Status::BadAsm(line, kind) => {
                 let name = quoted_at(words, 1);
-                let place = BadPlace { range, other };
-                writeln!(f, "radix: {name}: {place} (docs/FORMATS.md, \"The image\")")
+                let fault = SourceFault { line, kind };
+                writeln!(f, "radix: the source {name} {fault}")
             }
+            Status::BadPlace(range, other) => write_place(f, words, BadPlace { range, other }),
             Status::BadDevice(number, reason) => {
                 let reason = PlugFault { reason };
                 writeln!(f, "radix: device {number} cannot be plugged: {reason}")

@@ -4,7 +4,7 @@ use elf_image::Span;
 use ppc_bus::PlugReason;
 use std::fmt;
 
-/// A range of addresses that the image takes, and what it has no place beside.
+/// A range of addresses that the image or a guest takes, and what it has no place beside.
 #[derive(Clone, Copy, Drop)]
 pub struct BadPlace {
     /// The range.
@@ -13,11 +13,19 @@ pub struct BadPlace {
     pub other: Span,
 }
 
+/// The first address behind RAM.
+const RAM_END: u64 = 0x100_0000;
+
 impl fmt::Display for BadPlace {
     fn fmt<W: fmt::Write>(&self, f: &mut fmt::Formatter<W>) -> fmt::Result {
+        let what = if self.range.to > RAM_END {
+            "leave RAM,"
+        } else {
+            "meet"
+        };
         write!(
             f,
-            "addresses {:x} to {:x} have no place in RAM, or beside {:x} to {:x}",
+            "addresses {:x} to {:x} {what} {:x} to {:x}",
             self.range.from, self.range.to, self.other.from, self.other.to
         )
     }

@@ -41,27 +41,58 @@ fn rule_of_count(word: &str) -> &'static str {
     }
 }
 
+/// Whether the words begin with this command.
+fn begins_with(words: &[String], command: &str) -> bool {
+    words.first().is_some_and(|word| word.as_str() == command)
+}
+
+/// Whether a guest should stand at this place.
+fn wants_guest(words: &[String], place: usize) -> bool {
+    place > 4
+        && begins_with(words, "run")
+        && words
+            .get(place - 1)
+            .is_some_and(|word| word.as_str() == "--guest")
+}
+
 /// Says what is wrong with a word that is there.
-fn write_wrong<W: fmt::Write>(f: &mut fmt::Formatter<W>, place: usize, word: &str) -> fmt::Result {
+fn write_wrong<W: fmt::Write>(
+    f: &mut fmt::Formatter<W>,
+    words: &[String],
+    place: usize,
+    word: &str,
+) -> fmt::Result {
     let name = Quoted { text: word };
     if place == 0 && (word == "--help" || word == "--version") {
         writeln!(f, "radix: {name} takes no further word")
     } else if place == 0 {
         writeln!(f, "radix: {name} is no command of this version")
-    } else if place == 3 {
+    } else if place == 3 && begins_with(words, "run") {
         writeln!(f, "radix: N is {name}, and {}", rule_of_count(word))
+    } else if wants_guest(words, place) {
+        writeln!(
+            f,
+            "radix: the guest is {name}, and must be FILE@HEX: a name, '@', and an address of 1 to 16 hexadecimal digits"
+        )
     } else {
         writeln!(f, "radix: unexpected {name}")
     }
 }
 
 /// Says what is missing from this place on.
-fn missing(place: usize) -> &'static str {
+fn missing(words: &[String], place: usize) -> &'static str {
+    if begins_with(words, "asm") {
+        return "radix: the source is missing\n";
+    }
+    if begins_with(words, "dis") {
+        return "radix: the image is missing\n";
+    }
     match place {
         0 => "radix: a command is missing\n",
         1 => "radix: the image, the schedule and N are missing\n",
         2 => "radix: the schedule and N are missing\n",
-        _ => "radix: N is missing\n",
+        3 => "radix: N is missing\n",
+        _ => "radix: FILE@HEX is missing behind --guest\n",
     }
 }
 
@@ -71,11 +102,11 @@ impl<'a> fmt::Display for WrongWord<'a> {
             return f.write_str(HELP);
         }
         match self.words.get(self.place) {
-            Some(word) => write_wrong(f, self.place, word.as_str())?,
+            Some(word) => write_wrong(f, self.words, self.place, word.as_str())?,
             None if self.is_cut => {
                 writeln!(f, "radix: word {} is not UTF-8 text", self.place)?;
             }
-            None => f.write_str(missing(self.place))?,
+            None => f.write_str(missing(self.words, self.place))?,
         }
         f.write_str(HINT)
     }

@@ -4,6 +4,7 @@ use crate::information::HELP;
 use crate::last_step::LastStep;
 use crate::message::{Message, Story};
 use crate::usage::WrongWord;
+use asm_places::AsmKind;
 use elf_image::{ElfFault, Span};
 use journal_core::{RowKind, StopName};
 use ppc_bus::PlugReason;
@@ -42,7 +43,20 @@ fn said(alloc: Global, words: &[String], status: Status) -> Result<String, Alloc
 fn messages_name_the_wrong_word_and_what_would_be_right(rt: HostRuntime) -> Result<(), Fail> {
     for (text, place, want) in [
         ("", 0, "radix: a command is missing\n"),
-        ("dis a", 0, "radix: 'dis' is no command of this version\n"),
+        ("gen a", 0, "radix: 'gen' is no command of this version\n"),
+        ("asm", 1, "radix: the source is missing\n"),
+        ("dis", 1, "radix: the image is missing\n"),
+        ("asm a b", 2, "radix: unexpected 'b'\n"),
+        (
+            "run a b 3 --guest",
+            5,
+            "radix: FILE@HEX is missing behind --guest\n",
+        ),
+        (
+            "run a b 3 --guest g@",
+            5,
+            "radix: the guest is 'g@', and must be FILE@HEX: a name, '@', and an address of 1 to 16 hexadecimal digits\n",
+        ),
         ("--help 1", 0, "radix: '--help' takes no further word\n"),
         (
             "run",
@@ -114,7 +128,7 @@ fn messages_name_the_file_and_what_is_wrong(rt: HostRuntime) -> Result<(), Fail>
                     to: 0x100_0000,
                 },
             ),
-            "radix: 'a\\u{1b}\\n\\'': addresses fffffc to 1000004 have no place in RAM, or beside 0 to 1000000 (docs/FORMATS.md, \"The image\")\n",
+            "radix: 'a\\u{1b}\\n\\'': addresses fffffc to 1000004 leave RAM, 0 to 1000000 (docs/FORMATS.md, \"The image\")\n",
         ),
         (
             Status::BadDevice(1, PlugReason::SlotUsed(0)),
@@ -126,6 +140,40 @@ fn messages_name_the_file_and_what_is_wrong(rt: HostRuntime) -> Result<(), Fail>
         let given = said(rt.alloc(), &words, status)?;
         assert_eq!(rt; given.as_str(), want);
     }
+    Ok(())
+}
+
+#[test]
+fn messages_say_what_is_wrong_with_a_source_or_a_guest(rt: HostRuntime) -> Result<(), Fail> {
+    let words = words_of(rt.alloc(), "asm s")?;
+    for (status, want) in [
+        (
+            Status::BadAsm(2, AsmKind::Range),
+            "radix: the source 's' is wrong in line 2: an operand outside its field (Range)\n",
+        ),
+        (
+            Status::BadAsm(0, AsmKind::Empty),
+            "radix: the source 's' is wrong as a whole: no byte (Empty)\n",
+        ),
+    ] {
+        let given = said(rt.alloc(), &words, status)?;
+        assert_eq!(rt; given.as_str(), want);
+    }
+    let words = words_of(rt.alloc(), "run a b 3 --guest g@10008")?;
+    let range = Span {
+        from: 0x1_0008,
+        to: 0x1_000c,
+    };
+    let other = Span {
+        from: 0x1_0000,
+        to: 0x1_000c,
+    };
+    let given = said(rt.alloc(), &words, Status::BadPlace(range, other))?;
+    let want =
+        "radix: the guest 'g' at 10008: addresses 10008 to 1000c meet 10000 to 1000c (docs/FORMATS.md, \"Guests\")\n";
+    assert_eq!(rt; given.as_str(), want);
+    let given = said(rt.alloc(), &words, Status::ReadFault(5))?;
+    assert_eq!(rt; given.as_str(), "radix: 'g': input/output error\n");
     Ok(())
 }
 

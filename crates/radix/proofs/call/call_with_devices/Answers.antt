@@ -1,4 +1,4 @@
-use Rattle.std.proofs.Common.{◌≡◌, ℕ, List, ap, inl, refl, ◌∙◌}
+use Rattle.std.proofs.Common.{ℕ, List, ap, inl, refl, ◌∙◌}
 use denote.Param.Object.{read_made}
 use Rattle.ppc_bus.specs.Devices.{Access, Reply}
 use Rattle.radix.proofs.call.call_with_devices.OwnLists.{own-1, at-1-1, at-1-2, at-1-3}
