@@ -87,7 +87,7 @@ options_cut words front (w ∷ v ∷ ws) place before options all there cut e =
     by (asks_for_trace before w) (announces_guest before w)
     (λ f. options_cut words (front ++ w ∷ []) (v ∷ ws) (place + 1) (with_trace before) options first next cut f)
     (λ g is f. options_cut words ((front ++ w ∷ []) ++ v ∷ []) ws (place + 2) (with_guest before g) options second (sym two ∙ after)
-        (are_cut-push words before.guests g cut (subst (λ (all : List Text). IsCut all g) (sym first) (is_cut (front ++ w ∷ []) v ws (place + 1) g next is))) f)
+    (are_cut-push words before.guests g cut (subst (λ (all : List Text). IsCut all g) (sym first) (is_cut (front ++ w ∷ []) v ws (place + 1) g next is))) f)
     e
   where
     guests : ((g : GuestWord) → guest_of (place + 1) v ≡ Some g → options_of (place + 2) (with_guest before g) ws ≡ Ok options → AreCut words options.guests) → (o : Option GuestWord) → guest_of (place + 1) v ≡ o
@@ -157,4 +157,3 @@ run_named (v ∷ image ∷ schedule ∷ count ∷ more) w r some first is = rw (
     by : (o : Option ℕ) → count_of count ≡ o → IfOk (or_fault o 3 >>= (λ n. options_of 4 no_options more >>= (λ options. Ok (Run n options)))) (IsWellNamed (v ∷ image ∷ schedule ∷ count ∷ more))
     by None e = tt
     by (Some n) e = options n (few_steps count n e) (options_of 4 no_options more) refl
-

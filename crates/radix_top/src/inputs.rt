@@ -97,11 +97,7 @@ fn file_of(alloc: Global, image: &Image) -> Result<Bytes, Refusal>
 }
 
 /// Reads the source, which word 1 names, and makes the file of the image that it is.
-fn assemble_file<F: Files>(
-    alloc: Global,
-    words: &[String],
-    files: &mut F,
-) -> Result<Bytes, Refusal>
+fn assemble_file<F: Files>(alloc: Global, words: &[String], files: &mut F) -> Result<Bytes, Refusal>
     requires { 1 < length words.now }
     ensures same { (n : List ℕ) → F.told files.new n ≡ F.told files.old n }
     ensures counts { F.faults files.old ≤ F.faults files.new }

@@ -1,7 +1,7 @@
 //! Command lines and the places of their faults.
 
 use super::support::words;
-use crate::{Command, Options, read_command};
+use crate::{Command, read_command};
 use std::alloc::{AllocError, Global};
 use std::test::Fail;
 
@@ -18,23 +18,57 @@ fn place(alloc: Global, list: &[&str]) -> Result<Option<usize>, AllocError> {
     Ok(read_command(&words).err())
 }
 
+/// The count of the run that a command line is, whether it has a trace, and how many guests it loads.
+fn run_of(alloc: Global, list: &[&str]) -> Result<Option<(u32, bool, usize)>, AllocError> {
+    let words = words(alloc, list)?;
+    match read_command(&words) {
+        Ok(Command::Run { count, options }) => {
+            let guests = options.guests.as_slice().len();
+            Ok(Some((count, options.trace, guests)))
+        }
+        _ => Ok(None),
+    }
+}
+
 #[test]
 fn a_run_has_its_count_and_its_options(rt: HostRuntime) -> Result<(), Fail> {
-    let lines: [(&[&str], u32, bool); 2] = [
-        (&["run", "a", "b", "1048576"], 1_048_576, false),
-        (&["run", "a", "b", "0", "--trace"], 0, true),
+    let lines: [(&[&str], (u32, bool, usize)); 5] = [
+        (&["run", "a", "b", "1048576"], (1_048_576, false, 0)),
+        (&["run", "a", "b", "0", "--trace"], (0, true, 0)),
+        (&["run", "a", "b", "3", "--guest", "g@20000"], (3, false, 1)),
+        (
+            &[
+                "run", "a", "b", "3", "--guest", "g@0", "--trace", "--guest", "g@1",
+            ],
+            (3, true, 2),
+        ),
+        (
+            &[
+                "run",
+                "a",
+                "b",
+                "3",
+                "--guest",
+                "g@0",
+                "--guest",
+                "g@1",
+                "--guest",
+                "g@2",
+                "--guest",
+                "g@0123456789abcDEF",
+            ],
+            (3, false, 4),
+        ),
     ];
-    for (line, count, trace) in lines {
-        let list = words(rt.alloc(), line)?;
-        let options = Options { trace };
-        assert_eq!(rt; read_command(&list), Ok(Command::Run { count, options }));
+    for (line, run) in lines {
+        assert_eq!(rt; run_of(rt.alloc(), line)?, Some(run));
     }
     Ok(())
 }
 
 #[test]
 fn wrong_and_missing_words_have_their_numbers(rt: HostRuntime) -> Result<(), Fail> {
-    let lines: [(&[&str], usize); 28] = [
+    let lines: [(&[&str], usize); 29] = [
         (&[], 0),
         (&[""], 0),
         (&["Run"], 0),
@@ -43,13 +77,14 @@ fn wrong_and_missing_words_have_their_numbers(rt: HostRuntime) -> Result<(), Fai
         (&["runs", "a", "b", "1"], 0),
         (&["--help"], 0),
         (&["--version"], 0),
-        (&["asm", "a"], 0),
-        (&["dis", "a"], 0),
         (&["mon", "a", "b", "c"], 0),
         (&["gen", "1", "1", "53"], 0),
         (&["audit", "a", "b", "c"], 0),
         (&["a", "run", "b", "1"], 0),
         (&[LONG, "a", "b", "1"], 0),
+        (&["asm"], 1),
+        (&["asm", "a", "b"], 2),
+        (&["dis", "a", "--trace"], 2),
         (&["run"], 1),
         (&["run", "a"], 2),
         (&["run", ""], 2),
@@ -103,14 +138,37 @@ fn counts_have_no_sign_no_leading_zero_and_a_bound(rt: HostRuntime) -> Result<()
 
 #[test]
 fn a_word_after_n_that_is_no_option_is_refused(rt: HostRuntime) -> Result<(), Fail> {
-    let options: [&str; 7] = [
-        "--walks", "--guest", "--ram", "--help", "-h", "16", "g@20000",
-    ];
+    let options: [&str; 6] = ["--walks", "--ram", "--help", "-h", "16", "g@20000"];
     for option in options {
         assert_eq!(rt;
             place(rt.alloc(), &["run", "a", "b", "3", option])?,
             Some(4)
         );
     }
+    Ok(())
+}
+
+#[test]
+fn a_guest_is_a_name_and_one_to_sixteen_digits(rt: HostRuntime) -> Result<(), Fail> {
+    assert_eq!(rt;
+        place(rt.alloc(), &["run", "a", "b", "3", "--guest"])?,
+        Some(5)
+    );
+    for guest in ["g", "@0", "g@", "g@12345678901234567"] {
+        assert_eq!(rt;
+            place(rt.alloc(), &["run", "a", "b", "3", "--guest", guest])?,
+            Some(5)
+        );
+    }
+    Ok(())
+}
+
+#[test]
+fn a_fifth_guest_is_refused(rt: HostRuntime) -> Result<(), Fail> {
+    let line = [
+        "run", "a", "b", "3", "--guest", "g@0", "--guest", "g@1", "--guest", "g@2", "--guest",
+        "g@3", "--guest", "g@4",
+    ];
+    assert_eq!(rt; place(rt.alloc(), &line)?, Some(12));
     Ok(())
 }

@@ -56,6 +56,13 @@ fn a_file_above_64_mib_is_too_long(rt: HostRuntime) -> Result<(), Fail> {
     let left = call(rt.alloc(), &RUN, &mut files, &mut out)?;
     assert_eq!(rt; left.status, Status::TooLong(1));
     assert_eq!(rt; left.text.as_slice(), b"fault long 1\n".as_slice());
+    let mut files = first_files(rt.alloc())?;
+    files.add("g", &long)?;
+    let mut out = MemSink::open(rt.alloc(), 8192)?;
+    let line = ["run", "a", "b", "3", "--guest", "g@20000"];
+    let left = call(rt.alloc(), &line, &mut files, &mut out)?;
+    assert_eq!(rt; left.status, Status::TooLong(5));
+    assert_eq!(rt; left.text.as_slice(), b"fault long 5\n".as_slice());
     Ok(())
 }
 

@@ -13,4 +13,4 @@ returns-in-Some t c =
     let rest : List Text = take (length c.args.words.now - 1) (drop 1 c.args.words.now) in
     c.read_options-in-Some.ensures ∙ ap (λ o. options_of (c.args.place + 2) o (take (length rest - 1) (drop 1 rest))) c.with_guest.ensures
     ∙ guest_read c.args.place c.args.before c.args.words.now rest c.word-item.result c.value-item.result c.in-Some.guest c.in-len1-up.len_at_least c.word-item.is refl c.in-len1-up-rest.len_at_least c.value-item.is
-        (sym c.asks_for_trace.ensures ∙ c.if-asks_for_trace.false) (sym c.announces_guest.ensures ∙ c.if-announces_guest.true) (sym c.read_guest.ensures ∙ c.in-Some.is)
+    (sym c.asks_for_trace.ensures ∙ c.if-asks_for_trace.false) (sym c.announces_guest.ensures ∙ c.if-announces_guest.true) (sym c.read_guest.ensures ∙ c.in-Some.is)
