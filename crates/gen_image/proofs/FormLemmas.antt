@@ -1,6 +1,6 @@
 -- The instructions of generated code are forms.
-use Rattle.std.proofs.Common.{◌≡◌, ℕ, zero, suc, ◌+◌, ◌*◌, ◌/◌, ◌%◌, ◌^◌, ◌<◌, ◌≤◌, Bool, false, List, [], ◌∷◌, ◌++◌, length, get_or, Option, Some, None, refl, ap, sym, subst, ◌∙◌, arith, rules}
-use Rattle.std.specs.Prelude.{ℤ, pos, negsuc, neg_ℤ}
+use Rattle.std.proofs.Common.{◌≡◌, ℕ, zero, suc, ◌+◌, ◌*◌, ◌/◌, ◌%◌, ◌^◌, ◌<◌, ◌≤◌, List, [], ◌∷◌, ◌++◌, length, get_or, Some, refl, sym, subst, arith, rules}
+use Rattle.std.specs.Prelude.{ℤ, pos, neg_ℤ}
 use Rattle.std.specs.List.{flat_map, slice_get}
 use Rattle.std.proofs.lemmas.Int.{ints}
 use Rattle.std.proofs.lemmas.Bool.Decides.{nat_tests}
@@ -8,57 +8,15 @@ use Rattle.std.proofs.lemmas.Option.{none-some, same_Some}
 use Rattle.ppc_ops.specs.declared.insn.Insn.{Insn}
 use Rattle.ppc_ops.specs.Fitting.{IsSigned, IsSignedMultiple}
 use Rattle.ppc_ops.specs.Forms.{IsForm}
-use Rattle.gen_image.specs.Code.{handler, beginning, page_address, visit, call_and_return, guest_code, addi, addis, ori, xori, rldicr, ld, std, stb, mfspr, mtspr, tlbie}
+use Rattle.gen_image.specs.Code.{handler, beginning, page_address, visit, call_and_return, guest_code, addis, ori}
 use Rattle.gen_image.specs.Forms.{AreForms}
 use Rattle.gen_image.proofs.DrawLemmas.{AreBelow}
 
-addi-form : (rt ra : ℕ) (si : ℤ) → rt < 32 → ra < 32 → IsSigned 16 si → IsForm (addi rt ra si)
-addi-form rt ra si a b c = ((refl, a, b, c), refl)
-
-addis-form : (rt ra : ℕ) (si : ℤ) → rt < 32 → ra < 32 → IsSigned 16 si → IsForm (addis rt ra si)
-addis-form rt ra si a b c = ((refl, a, b, c), refl)
-
-ori-form : (ra rs ui : ℕ) → ra < 32 → rs < 32 → ui < 2 ^ 16 → IsForm (ori ra rs ui)
-ori-form ra rs ui a b c = ((refl, a, b, c), refl)
-
-mtspr-form : (spr rs : ℕ) → rs < 32 → spr < 2 ^ 10 → IsForm (mtspr spr rs)
-mtspr-form spr rs a b = ((a, b), refl)
-
 pub handler-forms : AreForms handler
-handler-forms =
-    (((omega arith, omega arith), refl),
-    ((omega arith, refl),
-    (((refl, omega arith, omega arith, omega arith), refl),
-    ((tt, refl),
-    ((tt, refl),
-    ((omega arith, refl),
-    (addi-form 21 21 (pos 1) (omega arith) (omega arith) refl,
-    (((refl, omega arith, omega arith, refl), refl),
-    (((refl, omega arith, omega arith, omega arith), refl),
-    (mtspr-form 319 20 (omega arith) (omega arith),
-    ((tt, refl),
-    tt)))))))))))
+handler-forms = search rules
 
 pub beginning-forms : AreForms beginning
-beginning-forms =
-    (addis-form 4 0 (pos 2) (omega arith) (omega arith) refl,
-    (mtspr-form 464 4 (omega arith) (omega arith),
-    (addi-form 4 0 (pos 1) (omega arith) (omega arith) refl,
-    (mtspr-form 319 4 (omega arith) (omega arith),
-    (mtspr-form 48 4 (omega arith) (omega arith),
-    (addis-form 22 0 (pos 4096) (omega arith) (omega arith) refl,
-    (addi-form 24 0 (pos 2048) (omega arith) (omega arith) refl,
-    (addi-form 5 0 (pos 20480) (omega arith) (omega arith) refl,
-    (mtspr-form 314 5 (omega arith) (omega arith),
-    (addis-form 6 0 (neg_ℤ (pos 32768)) (omega arith) (omega arith) refl,
-    (((refl, omega arith, omega arith, omega arith, omega arith), refl),
-    (ori-form 6 6 4147 (omega arith) (omega arith) (omega arith),
-    (mtspr-form 315 6 (omega arith) (omega arith),
-    (addis-form 7 0 (pos 592) (omega arith) (omega arith) refl,
-    (ori-form 7 7 1024 (omega arith) (omega arith) (omega arith),
-    (mtspr-form 318 7 (omega arith) (omega arith),
-    ((tt, refl),
-    tt)))))))))))))))))
+beginning-forms = search rules
 
 -- a number below 2 ^ 15 is a signed one of 16 bits
 small-signed : (n : ℕ) → n < 2 ^ 15 → IsSigned 16 (pos n)
@@ -66,12 +24,11 @@ small-signed n h = grind (arith, nat_tests, ints)
 
 pub visit-forms : (draw : ℕ) → draw < 256 → AreForms (visit draw)
 visit-forms draw h =
-    (addis-form 6 0 (pos (page_address draw / 2 ^ 16)) (omega arith) (omega arith) (small-signed (page_address draw / 2 ^ 16) (omega arith)),
-    (ori-form 6 6 (page_address draw % 2 ^ 16) (omega arith) (omega arith) (omega arith),
-    (((refl, omega arith, omega arith, (refl, refl)), refl),
-    (addi-form 7 7 (pos 1) (omega arith) (omega arith) refl,
-    (((refl, omega arith, omega arith, (refl, refl)), refl),
-    tt)))))
+    let high : page_address draw / 2 ^ 16 < 2 ^ 15 = omega arith in
+    let low : page_address draw % 2 ^ 16 < 2 ^ 16 = omega arith in
+    let first : IsForm (addis 6 0 (pos (page_address draw / 2 ^ 16))) = ((refl, omega arith, omega arith, small-signed (page_address draw / 2 ^ 16) high), refl) in
+    let second : IsForm (ori 6 6 (page_address draw % 2 ^ 16)) = ((refl, omega arith, omega arith, low), refl) in
+    (first, (second, search rules))
 
 -- a distance back, of a multiple of 4 bytes
 back-signed : (n m : ℕ) → n ≡ suc m → n ≤ 2 ^ 25 → n % 4 ≡ 0 → IsSignedMultiple 26 (neg_ℤ (pos n))
@@ -79,7 +36,8 @@ back-signed n m is h four = subst (λ (k : ℕ). IsSignedMultiple 26 (neg_ℤ (p
 
 pub call_and_return-forms : (visits : ℕ) → visits ≤ 64 → AreForms (call_and_return visits)
 call_and_return-forms visits h =
-    ((omega arith, refl), ((back-signed (20 * visits + 4) (20 * visits + 3) (omega arith) (omega arith) (omega arith), refl), tt))
+    let distance : IsSignedMultiple 26 (neg_ℤ (pos (20 * visits + 4))) = back-signed (20 * visits + 4) (20 * visits + 3) (omega arith) (omega arith) (omega arith) in
+    ((omega arith, refl), ((distance, refl), tt))
 
 forms-append : (a b : List Insn) → AreForms a → AreForms b → AreForms (a ++ b)
 forms-append [] b f g = g

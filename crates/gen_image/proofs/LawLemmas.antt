@@ -1,20 +1,16 @@
 -- Generated images lie in RAM, and their code is of forms.
-use Rattle.std.proofs.Common.{◌≡◌, ℕ, ◌+◌, ◌-◌, ◌*◌, ◌<◌, ◌≤◌, List, [], ◌∷◌, ◌++◌, length, map, replicate, Option, Some, None, refl, ap, sym, subst, ◌∙◌, arith, length-append}
-use Rattle.std.specs.List.{slice_get}
+use Rattle.std.proofs.Common.{◌≡◌, ℕ, ◌≤◌, List, [], ◌∷◌, ◌++◌, length, map, None, refl, ap, sym, ◌∙◌, arith}
 use Rattle.std.proofs.lemmas.List.{length-map}
 use Rattle.ppc_ops.specs.declared.insn.Insn.{Insn}
-use Rattle.ppc_ops.specs.Forms.{IsForm}
 use Rattle.ppc_decode.proofs.Whole.{encoded}
 use Rattle.elf_image.specs.declared.address_range.AddressRange.{AddressRange}
 use Rattle.elf_image.specs.declared.segment.Segment.{Segment}
-use Rattle.elf_image.specs.declared.image.Image.{Image}
-use Rattle.elf_image.specs.Parts.{SegmentParts, segment_parts, image_parts, ImageParts}
+use Rattle.elf_image.specs.Parts.{SegmentParts, segment_parts, ImageParts}
 use Rattle.elf_image.specs.Ranges.{segment_range, ranges_of}
 use Rattle.elf_image.specs.Places.{bad_pair, spans_of, ram_range, bad_place_of}
 use Rattle.gen_image.specs.Draws.{first_draws, second_draws}
-use Rattle.gen_image.specs.Code.{handler, beginning, guest_code, code_bytes}
-use Rattle.gen_image.specs.Tables.{table_bytes, partition_table, partition_tree, process_tables}
-use Rattle.gen_image.specs.Generated.{segments, generated, guest_pages, padded, IsSize}
+use Rattle.gen_image.specs.Code.{handler, beginning, guest_code}
+use Rattle.gen_image.specs.Generated.{segments, IsSize}
 use Rattle.gen_image.specs.Forms.{AreForms}
 use Rattle.gen_image.specs.Laws.{GeneratedFits, GeneratedCodeMeansForms, MeansForms}
 use Rattle.gen_image.proofs.TableLemmas.{length-partition_table, length-partition_tree}
@@ -32,15 +28,17 @@ below-64 : (bound : ℕ) (xs : List ℕ) → bound ≤ 64 → AreBelow bound xs 
 below-64 bound [] few below = tt
 below-64 bound (x ∷ xs) few below = (omega arith, below-64 bound xs few below.1)
 
+guest-means : (draws : List ℕ) (size : ℕ) → size ≤ 64 → AreBelow size draws → length draws ≡ size → MeansForms (guest_code draws)
+guest-means draws size few below long = means-forms (guest_code draws) (guest_code-forms draws (below-64 size draws few below) (omega arith))
+
+guests-mean : (seed size : ℕ) → IsSize size → MeansForms (guest_code (first_draws seed size)) × MeansForms (guest_code (second_draws seed size))
+guests-mean seed size allowed =
+    let first = guest-means (first_draws seed size) size allowed.1 (first-below seed size allowed.0) (first-length seed size) in
+    let second = guest-means (second_draws seed size) size allowed.1 (second-below seed size allowed.0) (second-length seed size) in
+    (first, second)
+
 pub code_means_forms : GeneratedCodeMeansForms
-code_means_forms =
-    (means-forms handler handler-forms,
-    means-forms beginning beginning-forms,
-    λ seed size allowed.
-        (means-forms (guest_code (first_draws seed size))
-        (guest_code-forms (first_draws seed size) (below-64 size (first_draws seed size) allowed.1 (first-below seed size allowed.0)) (omega (arith, first-length seed size))),
-        means-forms (guest_code (second_draws seed size))
-        (guest_code-forms (second_draws seed size) (below-64 size (second_draws seed size) allowed.1 (second-below seed size allowed.0)) (omega (arith, second-length seed size)))))
+code_means_forms = (means-forms handler handler-forms, means-forms beginning beginning-forms, guests-mean)
 
 -- ---- places
 
@@ -69,9 +67,10 @@ all_fit = refl
 pub image_fits : GeneratedFits
 unfolding bad_place_of
 image_fits image seed size is allowed =
-    let parts : map segment_parts image.segments ≡ segments (first_draws seed size) (second_draws seed size) = ap (λ (p : ImageParts). p.segments) is in
-    let same : ranges_of image.segments [] ≡ ranges =
-        by_parts image.segments ∙ ap (λ (ps : List SegmentParts). map part_range ps) parts
-        ∙ ranges-are (first_draws seed size) (second_draws seed size) (omega (arith, first-length seed size)) (omega (arith, second-length seed size)) in
-    (sym (length-map image.segments segment_parts) ∙ ap (λ (ps : List SegmentParts). length ps) parts,
-    ap (λ (rs : List AddressRange). spans_of (bad_pair (ram_range 16) [] rs)) same ∙ all_fit)
+    let first = first_draws seed size in
+    let second = second_draws seed size in
+    let parts : map segment_parts image.segments ≡ segments first second = ap (λ (p : ImageParts). p.segments) is in
+    let in_place : map part_range (segments first second) ≡ ranges = ranges-are first second (omega (arith, first-length seed size)) (omega (arith, second-length seed size)) in
+    let same : ranges_of image.segments [] ≡ ranges = by_parts image.segments ∙ ap (λ (ps : List SegmentParts). map part_range ps) parts ∙ in_place in
+    let seven : length image.segments ≡ 7 = sym (length-map image.segments segment_parts) ∙ ap (λ (ps : List SegmentParts). length ps) parts in
+    (seven, ap (λ (rs : List AddressRange). spans_of (bad_pair (ram_range 16) [] rs)) same ∙ all_fit)

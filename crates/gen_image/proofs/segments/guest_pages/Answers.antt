@@ -12,6 +12,6 @@ pad-requires c =
 pub returns : goal.returns
 returns c =
     let pages : c.pad.new.out.items ≡ guest_pages c.args.draws.now =
-        are-pages c.args.draws.now c.new-bytes.result.items c.push_process_tables.new.out.items c.push_guest_code.new.out.items c.pad.new.out.items c.new-bytes.ensures.items c.in_ok-push_process_tables.ensures
-        c.in_ok-push_guest_code.ensures c.in_ok-pad.ensures in
+    are-pages c.args.draws.now c.new-bytes.result.items c.push_process_tables.new.out.items c.push_guest_code.new.out.items c.pad.new.out.items c.new-bytes.ensures.items c.in_ok-push_process_tables.ensures
+    c.in_ok-push_guest_code.ensures c.in_ok-pad.ensures in
     c.segment.ensures ∙ ap (λ (at : ℕ). segment (at + 0x10000) c.pad.new.out.items) c.base.ensures ∙ ap (λ (bytes : List ℕ). segment (base c.args.guest + 0x10000) bytes) pages
