@@ -1,5 +1,5 @@
 -- The instructions of a generated image.
-use Rattle.std.specs.Prelude.{ℕ, ◌+◌, ◌-◌, ◌*◌, ◌/◌, ◌%◌, ◌^◌, List, [], ◌∷◌, ◌++◌, length, flat_map, Bool, true, false, ℤ, pos, negsuc, neg_ℤ}
+use Rattle.std.specs.Prelude.{ℕ, ◌+◌, ◌*◌, ◌/◌, ◌%◌, ◌^◌, List, [], ◌∷◌, ◌++◌, length, flat_map, Bool, true, false, ℤ, pos, neg_ℤ}
 use Rattle.std.specs.Int.{bytes_low_first}
 use Rattle.ppc_ops.specs.declared.op.Op.TheVariants.{Addi, Addis, Xori, Ori, Rldicr, Stb, Ld, Std, Tlbie}
 use Rattle.ppc_ops.specs.declared.insn.Insn.{Insn}
@@ -93,10 +93,18 @@ visit draw =
     std 7 6 ∷
     []
 
+-- a call of the hypervisor, and a branch back over that and so many visits
+abbrev pub call_and_return : ℕ → List Insn
+call_and_return visits = insn.Sc 1 ∷ insn.Jump (neg_ℤ (pos (20 * visits + 4))) false false ∷ []
+
 -- a guest's code, at its address 5000: it visits a page for each draw, calls the hypervisor, and begins again
 abbrev pub guest_code : List ℕ → List Insn
-guest_code draws = flat_map visit draws ++ insn.Sc 1 ∷ insn.Jump (neg_ℤ (pos (20 * length draws + 4))) false false ∷ []
+guest_code draws = flat_map visit draws ++ call_and_return (length draws)
 
--- the bytes of instructions, the lowest byte of each word first
+-- the bytes of an instruction's word, the lowest first
+abbrev pub insn_bytes : Insn → List ℕ
+insn_bytes i = bytes_low_first 0 4 (word_for i)
+
+-- the bytes of instructions
 unfoldable pub code_bytes : List Insn → List ℕ
-code_bytes code = flat_map (λ i. bytes_low_first 0 4 (word_for i)) code
+code_bytes code = flat_map insn_bytes code

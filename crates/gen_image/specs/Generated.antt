@@ -24,16 +24,17 @@ guest_pages draws = table_bytes process_tables ++ padded 0x1000 (code_bytes (gue
 abbrev pub guest_segments : ℕ → List ℕ → List SegmentParts
 guest_segments guest draws = segment (base guest) (table_bytes (partition_tree guest)) ∷ segment (base guest + 0x10000) (guest_pages draws) ∷ []
 
--- the image of a seed and a size, which is how many draws each guest has
-abbrev pub generated : ℕ → ℕ → ImageParts
-generated seed size = record {
-  entry = 0x10000;
-  segments =
+-- the segments of an image, by the draws of its guests
+abbrev pub segments : List ℕ → List ℕ → List SegmentParts
+segments first second =
     segment 0xC00 (code_bytes handler) ∷
     segment 0x10000 (code_bytes beginning) ∷
     segment 0x20000 (table_bytes partition_table) ∷
-    guest_segments 1 (first_draws seed size) ++ guest_segments 2 (second_draws seed size);
-}
+    guest_segments 1 first ++ guest_segments 2 second
+
+-- the image of a seed and a size, which is how many draws each guest has
+abbrev pub generated : ℕ → ℕ → ImageParts
+generated seed size = record { entry = 0x10000; segments = segments (first_draws seed size) (second_draws seed size) }
 
 -- a size that is allowed
 abbrev pub IsSize : ℕ → Type 0

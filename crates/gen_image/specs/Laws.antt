@@ -1,5 +1,5 @@
 -- Laws of generated images.
-use Rattle.std.specs.Prelude.{◌≡◌, ◌<◌, ℕ, List, [], length, Some, None, slice_get}
+use Rattle.std.specs.Prelude.{◌≡◌, ℕ, List, [], length, Some, None, slice_get}
 use Rattle.ppc_ops.specs.declared.insn.Insn.{Insn}
 use Rattle.ppc_ops.specs.Forms.{IsForm}
 use Rattle.word_decoder.specs.declared.decoded.Decoded.TheVariants.{Form}

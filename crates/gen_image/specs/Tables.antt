@@ -13,22 +13,30 @@ base guest = guest * 0x100000
 
 -- The partition table: entry 0 is empty, and those of guests 1 and 2 say where their roots lie. Each entry has two doublewords, of
 -- which the second is 0.
-abbrev pub partition_table : List ℕ
+unfoldable pub partition_table : List ℕ
 partition_table = 0 ∷ 0 ∷ (0x800000000000000A + base 1) ∷ 0 ∷ (0x800000000000000A + base 2) ∷ 0 ∷ []
 
 -- entries that are 0
-abbrev pub empty : ℕ → List ℕ
+unfoldable pub empty : ℕ → List ℕ
 empty count = replicate count 0
 
--- leaves of 128 pages from an address on, read and written by all; then empty entries up to 512
-abbrev pub leaves : ℕ → List ℕ
-leaves from = map (λ page. 0xC000000000000187 + from + 0x1000 * page) (range_with_len 0 128) ++ empty 384
+-- the leaf of a page, of those from an address on: the page is read and written by all
+abbrev pub leaf : ℕ → ℕ → ℕ
+leaf from page = 0xC000000000000187 + from + 0x1000 * page
+
+-- the leaves of so many pages from an address on
+unfoldable pub first_leaves : ℕ → ℕ → List ℕ
+first_leaves from count = map (leaf from) (range_with_len 0 count)
+
+-- the leaves of 128 pages from an address on, and then empty entries up to 512
+unfoldable pub leaves : ℕ → List ℕ
+leaves from = first_leaves from 128 ++ empty 384
 
 -- the partition-scoped tree of a guest: a root of 1024 entries, and behind it a table of the guest's pages
-abbrev pub partition_tree : ℕ → List ℕ
+unfoldable pub partition_tree : ℕ → List ℕ
 partition_tree guest = (0x8000000000000009 + base guest + 0x2000) ∷ empty 1023 ++ leaves (base guest + 0x10000)
 
 -- the guest's own tables in its pages 0 to 4: at 10 the entry of process 1, at 2000 the root of that process, and at 4000 a table of
 -- its pages, each at the same address
-abbrev pub process_tables : List ℕ
+unfoldable pub process_tables : List ℕ
 process_tables = 0 ∷ 0 ∷ 0x200A ∷ empty 1021 ++ 0x8000000000004009 ∷ empty 1023 ++ leaves 0

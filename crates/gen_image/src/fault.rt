@@ -1,5 +1,9 @@
 //! Why no image is generated.
 
+ghost use Rattle.std.specs.Prelude.{◌≡◌};
+ghost use Rattle.gen_image.specs.declared.fault.GenFault.TheVariants as faults;
+
+use std::alloc::{AllocError, AllocFailed};
 use thiserror::Error;
 
 /// Why no image is generated.
@@ -11,4 +15,12 @@ pub enum GenFault {
     /// There is no memory for the image.
     #[error("there is not enough memory")]
     Memory,
+}
+
+impl From<AllocError> for GenFault {
+    ghost from_gives = { λ _ e. e ≡ faults.Memory };
+
+    fn from(_e: AllocError) -> GenFault {
+        GenFault::Memory
+    }
 }
