@@ -4,6 +4,7 @@ mod commands;
 mod faults;
 mod files;
 mod forms;
+mod generated;
 mod guests;
 mod runs;
 mod support;
