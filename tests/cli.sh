@@ -69,7 +69,9 @@ compare 'the report in README.md' readme "$report"
 # Wrong words.
 expect_usage 0 'a command is missing'
 expect_usage 0 "'RUN' is no command of this version" RUN first.elf first.sched 1
-expect_usage 0 "'dis' is no command of this version" dis first.elf
+for word in gen mon audit ASM run.; do
+    expect_usage 0 "'$word' is no command of this version" "$word" first.elf
+done
 expect_usage 0 "'help' is no command of this version" help
 expect_usage 0 "'' is no command of this version" ''
 expect_usage 0 "'--help' takes no further word" --help --version
@@ -83,6 +85,11 @@ expect_usage 3 "N is '01', and must be 0 to 1048576 in decimal, without a leadin
 expect_usage 3 "N is '-1', and must be 0 to 1048576 in decimal, without a sign" run first.elf first.sched -1
 expect_usage 3 "N is '+1', and must be 0 to 1048576 in decimal, without a sign" run first.elf first.sched +1
 expect_usage 4 "unexpected '2'" run first.elf first.sched 1 2
+expect_usage 1 'the source is missing' asm
+expect_usage 1 'the image is missing' dis
+expect_usage 2 "unexpected 'b'" asm a b
+expect_usage 2 "unexpected '--trace'" dis first.elf --trace
+expect_usage 2 "unexpected '--guest'" asm a --guest b@0
 expect 2 "fault usage 0$line" "$help" -h
 expect 2 "fault usage 2$line" "$help" run --help
 expect 2 "fault usage 2$line" "$help" run -h
@@ -93,7 +100,10 @@ expect_usage 1 'word 1 is not UTF-8 text' run $'\xff' first.sched 3
 expect_usage 3 'word 3 is not UTF-8 text' run first.elf first.sched $'3\xc0'
 expect_usage 4 'word 4 is not UTF-8 text' run first.elf first.sched 3 $'\xff'
 expect_usage 3 "N is 'x', and must be 0 to 1048576 in decimal" run first.elf first.sched x $'\xff'
-expect_usage 0 "'dis' is no command of this version" dis $'\xff'
+expect_usage 0 "'gen' is no command of this version" gen $'\xff'
+expect_usage 1 'word 1 is not UTF-8 text' asm $'\xff'
+expect_usage 2 'word 2 is not UTF-8 text' dis first.elf $'\xff'
+expect_usage 5 'word 5 is not UTF-8 text' run first.elf first.sched 3 --guest $'\xff'
 
 # Files that cannot be read, with the reason of the system.
 expect 3 "fault read 1$line" "radix: 'missing': no such file$line" run missing first.sched 3
@@ -284,6 +294,156 @@ expect 10 "fault place fffffffffffffff8 ffffffffffffffff 0000000000000000 000000
 [ "$(sed -n 2,4p out | tr '\n' ' ')" = 'end full writes 2097152 steps 262144 tb 0000000000040000 ' ] || fail 'a journal full of writes' 'end full writes 2097152' "$(sed -n 2,4p out)"
 compare 'what is said of a journal full of writes' err "radix: no room in the journal after step 262143, at address 10004, word 7c0027ec: its list of writes has 2097152 rows (docs/MACHINE.md, \"Limits\")$line"
 count=$((count + 1))
+
+# asm: an image, byte for byte; then each kind of fault in a source, with its line.
+cp "$top/examples/asm/first.s" . || exit 1
+"$program" asm first.s >out 2>err </dev/null || fail 'asm of the first source' 0 $?
+cmp -s out first.elf || fail 'asm of the first source' 'the bytes of first.elf' "$(head -c 200 out | cat -v)"
+compare 'what is said of the first source' err ''
+"$program" asm /dev/stdin <first.s >out 2>err || fail 'asm of standard input' 0 $?
+cmp -s out first.elf || fail 'asm of standard input' 'the bytes of first.elf' "$(head -c 200 out | cat -v)"
+printf '.seg 0\na: b a\n.entry a' >own
+"$program" asm own >own.elf 2>err || fail 'asm of a source whose last newline is missing' 0 $?
+expect 0 "0000000000000000 48000000 b .+0$line" '' dis own.elf
+count=$((count + 3))
+
+# A source that is wrong: the line, the kind, and the source as a format of printf.
+expect_asm() {
+    local number=$1 kind=$2 where="in line $1"
+    [ "$number" -ne 0 ] || where='as a whole'
+    printf "$3" >source
+    "$program" asm source >out 2>err </dev/null
+    [ $? -eq 7 ] || fail "exit status of asm of '$3'" 7 "other, $(cat -v err)"
+    compare "the line of asm of '$3'" out "fault asm $number $kind$line"
+    case $(cat err) in
+        "radix: the source 'source' is wrong $where: "*" ($kind)") ;;
+        *) fail "what is said of asm of '$3'" "radix: the source 'source' is wrong $where: .. ($kind)" "$(cat -v err)" ;;
+    esac
+    count=$((count + 1))
+}
+expect_asm 2 Lex '.seg 0\n.word 1;\n'
+expect_asm 1 Lex '.seg 0\r\n.word 1\r\n'
+expect_asm 2 Form '.seg 0\nnop\n'
+expect_asm 3 Twice '.seg 0\ne: .word 1\n.equ e, 2\n'
+expect_asm 1 NoSegment '.word 1\n.seg 0\n'
+expect_asm 2 Unknown '.seg 0\n.space n\n.equ n, 4\n'
+expect_asm 2 Range '.seg 0\naddi r3,0,65536\n'
+expect_asm 3 Overlap '.seg 0x1000\n.word 1\n.seg 0x1002\n.word 2\n.entry a\n'
+expect_asm 0 Entry '.seg 0\ne: .word 1\n'
+expect_asm 0 Entry ''
+expect_asm 0 Empty '.seg 0\ne: .entry e\n'
+expect_asm 9 Form '.seg 0\naddi r3,0,65536\n\n\n\n\n\n\nnop\n'
+printf -v many '.seg 0\n.word 1\n%.0s' {1..64}
+expect_asm 3 Overlap "$many"
+many=
+for k in {0..64}; do
+    many+=".seg $((16 * k))\n.word 1\n"
+done
+expect_asm 129 Segments "$many"
+printf -v many '\n%.0s' {1..65536}
+expect_asm 65537 Lines ".seg 0$many\n"
+"$program" asm first.elf >out 2>err
+[ $? -eq 7 ] || fail 'exit status of asm of an image' 7 "other, $(cat -v err)"
+compare 'the line of asm of an image' out "fault asm 1 Lex$line"
+count=$((count + 1))
+
+# dis: a line for each whole word of the bytes of each segment, and the same image from its own texts.
+listing="0000000000010000 38600001 addi r3,0,1
+0000000000010004 7c831a14 add r4,r3,r3
+0000000000010008 48000000 b .+0$line"
+expect 0 "$listing" '' dis first.elf
+expect 0 "$listing" '' dis more_memory.elf
+expect 0 '' '' dis no_bytes.elf
+expect 0 "0000000000fffff8 38600001 addi r3,0,1
+0000000000fffffc 7c831a14 add r4,r3,r3
+0000000001000000 48000000 b .+0$line" '' dis beyond.elf
+expect 0 "fffffffffffffff8 38600001 addi r3,0,1
+fffffffffffffffc 48000000 b .+0$line" '' dis highest.elf
+expect 5 "fault image Overlap 0 1$line" "radix: 'twice.elf': the segments of headers 0 and 1 have a common address $see$line" dis twice.elf
+expect 5 "fault image Short$line" "radix: 'empty': shorter than the header of an ELF file $see$line" dis empty
+expect 5 "fault image Magic$line" "radix: 'first.s': not an ELF file $see$line" dis first.s
+expect 5 "fault image Abi$line" "radix: 'first_abi.elf': not of the second version of the ABI $see$line" dis first_abi.elf
+cp first.elf three_bytes.elf
+printf '\x0b' | dd of=three_bytes.elf bs=1 seek=96 conv=notrunc status=none
+expect 0 "${listing%0000000000010008*}" '' dis three_bytes.elf
+{ printf '.seg 0x10000\n.equ e, 0x10000\n.entry e\n'; "$program" dis first.elf | cut -c27-; } >again.s
+"$program" asm again.s >again.elf 2>err || fail 'asm of the texts of a listing' 0 $?
+cmp -s again.elf first.elf || fail 'asm of the texts of a listing' 'the bytes of first.elf' "$(cat again.s)"
+for command in 'asm first.s' 'dis first.elf'; do
+    "$program" $command >/dev/full 2>err
+    [ $? -eq 11 ] || fail "exit status of $command at a full disk" 11 other
+    compare "what is said of $command at a full disk" err "radix: the output could not be written$line"
+    count=$((count + 1))
+done
+count=$((count + 1))
+
+# Guests: files that are loaded as they are.
+printf '\x01\x02\x03\x04' >g
+: >nothing
+"$top/tools/make_image.sh" 0x10000 0x10000 0x3C800002 0x80A40000 0x48000000 >word.elf
+loaded() {
+    "$program" run word.elf first.sched 2 "$@" >out 2>err || fail "a run with $*" 0 "$?, $(cat -v err)"
+    sed -n 10p out >tail
+    compare "registers 4 to 7 of a run with $*" tail "r04 0000000000020000 00000000$value 0000000000000000 0000000000000000$line"
+    count=$((count + 1))
+}
+value=00000000
+loaded
+loaded --guest g@1fffc
+value=04030201
+loaded --guest g@20000
+loaded --guest g@0000000000020000
+loaded --guest nothing@20000 --guest g@20000
+loaded --guest nothing@FFFFFFFFFFFFFFFF --guest nothing@10008 --guest g@20000 --guest g@fffffc
+cp g a@b
+loaded --guest a@b@20000
+loaded --guest ./a@b@20000
+value=00000403
+loaded --guest g@1fffe
+expect 0 "$report" '' run first.elf first.sched 3 --guest g@20000
+"$program" run word.elf first.sched 2 --trace >traced 2>err || fail 'a trace' 0 $?
+for words in '--trace --guest nothing@0' '--guest nothing@0 --trace'; do
+    "$program" run word.elf first.sched 2 $words >out 2>err || fail "a run with $words" 0 $?
+    cmp -s out traced || fail "a run with $words" "$(cat traced)" "$(cat out)"
+    count=$((count + 1))
+done
+
+# Guests that have no place: the ranges that are told, what is said of them, then the words of the guests.
+expect_place() {
+    local told=$1 said=$2
+    shift 2
+    expect 10 "fault place $told$line" "radix: the guest $said (docs/FORMATS.md, \"Guests\")$line" run first.elf first.sched 3 "$@"
+}
+expect_place '0000000000010008 000000000001000c 0000000000010000 000000000001000c' \
+    "'g' at 10008: addresses 10008 to 1000c meet 10000 to 1000c" --guest g@10008
+expect_place 'ffffffffffffffff ffffffffffffffff 0000000000000000 0000000001000000' \
+    "'g' at ffffffffffffffff: addresses ffffffffffffffff to ffffffffffffffff leave RAM, 0 to 1000000" --guest g@FFFFFFFFFFFFFFFF
+expect_place '0000000000fffffd 0000000001000001 0000000000000000 0000000001000000' \
+    "'g' at fffffd: addresses fffffd to 1000001 leave RAM, 0 to 1000000" --guest g@fffffd
+expect_place '0000000000020003 0000000000020007 0000000000020000 0000000000020004' \
+    "'g' at 20003: addresses 20003 to 20007 meet 20000 to 20004" --guest g@30000 --guest g@20000 --guest g@20003 --guest g@30000
+
+# Words that announce no guest, a fifth guest, and guests that are not read.
+expect_usage 5 'FILE@HEX is missing behind --guest' run first.elf first.sched 3 --guest
+expect_usage 6 'FILE@HEX is missing behind --guest' run first.elf first.sched 3 --trace --guest
+for word in g @0 g@ @ '' g@0x10 g@-1 'g@ 1' g@12345678901234567 g@1g g@20000@ --trace; do
+    expect_usage 5 "the guest is '$word', and must be FILE@HEX: a name, '@', and an address of 1 to 16 hexadecimal digits" \
+        run first.elf first.sched 3 --guest "$word"
+done
+expect_usage 12 "unexpected '--guest'" run first.elf first.sched 3 --guest g@0 --guest g@10 --guest g@20 --guest g@30 --guest g@40
+expect_usage 6 "unexpected 'g@0'" run first.elf first.sched 3 --guest g@0 g@0
+expect_usage 7 "unexpected '--trace'" run first.elf first.sched 3 --trace --guest g@0 --trace
+expect_usage 3 "N is '--guest', and must be 0 to 1048576 in decimal, before all options" run first.elf first.sched --guest g@0 3
+expect 3 "fault read 5$line" "radix: 'missing': no such file$line" run first.elf first.sched 3 --guest missing@0
+expect 3 "fault read 8$line" "radix: '.': is a directory$line" run first.elf first.sched 3 --guest g@0 --trace --guest .@10008
+truncate -s 67108865 zeros
+expect 4 "fault long 5$line" "radix: 'zeros': longer than 64 MiB$line" run first.elf first.sched 3 --guest zeros@0
+expect 4 "fault long 1$line" "radix: 'zeros': longer than 64 MiB$line" asm zeros
+expect 4 "fault long 1$line" "radix: 'zeros': longer than 64 MiB$line" dis zeros
+rm zeros
+expect 6 "fault schedule 0$line" "radix: 'two': $not_schedule$line" run first.elf two 3 --guest missing@0
+expect 3 "fault read 1$line" "radix: 'missing': no such file$line" asm missing
+expect 3 "fault read 1$line" "radix: '.': is a directory$line" dis .
 
 # The most steps, and none.
 "$program" run first.elf first.sched 1048576 >out 2>err || fail 'a run of 1,048,576 steps' 0 $?

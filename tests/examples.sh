@@ -1,11 +1,13 @@
 #!/usr/bin/env bash
-# Makes the run that each page of examples/ names, and compares its report and its image. Ends at the first difference.
+# Makes the run that each page of examples/ names, and compares its report and its image; assembles the sources first. Ends at the
+# first difference.
 set -u
 
 top=$(cd "$(dirname "${BASH_SOURCE[0]}")/.." && pwd)
 program=$top/crates/radix/out/radix
-made=$(mktemp) || exit 1
-trap 'rm -f "$made"' EXIT
+folder=$(mktemp -d) || exit 1
+trap 'rm -rf "$folder"' EXIT
+made=$folder/made
 count=0
 
 if [ ! -x "$program" ]; then
@@ -39,5 +41,52 @@ for file in first.elf first.sched; do
     cmp "examples/first/$file" "crates/radix/data/$file" || { echo "examples: crates/radix/data/$file is to be the same as examples/first/$file"; exit 1; }
 done
 cmp examples/first/first.report crates/radix/stdout || { echo "examples: crates/radix/stdout is to be the report of examples/first"; exit 1; }
+
+# The sources: each is assembled and run as its page says.
+for source in asm/first asm/tables asm/hypervisor generated/generated; do
+    page=examples/${source%/*}/README.md
+    name=${source#*/}
+    report=examples/$source.report
+    [ -e "$report" ] || report=examples/$name/$name.report
+    if ! grep -qxF "    ./radix asm examples/$source.s >$name.elf" "$page"; then
+        echo "examples: $page does not say how examples/$source.s is assembled"
+        exit 1
+    fi
+    if ! "$program" asm "examples/$source.s" >"$folder/$name.elf"; then
+        echo "examples: examples/$source.s is not assembled: $(head -c 100 "$folder/$name.elf")"
+        exit 1
+    fi
+    read -r -a words < <(sed -n "s|^    ./radix run $name.elf ||p" "$page")
+    "$program" run "$folder/$name.elf" "${words[@]}" >"$made" 2>/dev/null
+    if ! cmp "$made" "$report"; then
+        echo "examples: the run of examples/$source.s, by $page, has another report than $report"
+        diff "$made" "$report"
+        exit 1
+    fi
+    if ! "$program" dis "$folder/$name.elf" >>"$folder/listing"; then
+        echo "examples: the image of examples/$source.s is not listed"
+        exit 1
+    fi
+    count=$((count + 1))
+done
+cmp "$folder/first.elf" examples/first/first.elf || { echo "examples: examples/asm/first.s is to make examples/first/first.elf"; exit 1; }
+
+# Each word of the page of sources stands in a listing, at its address.
+while read -r address word; do
+    printf -v line '%016x %s ' "0x$address" "${word,,}"
+    grep -qF "$line" "$folder/listing" || { echo "examples: examples/asm/README.md has $word at $address, where no source has it"; exit 1; }
+done < <(sed -n 's/^| \([0-9a-f]*\) | `\([0-9A-F]\{8\}\)` .*/\1 \2/p' examples/asm/README.md)
+
+# The image that a seed and a size make: the digest of its file stands in its page.
+if command -v sha256sum >/dev/null; then
+    wanted=$(sed -n 's/^    \([0-9a-f]\{64\}\)  generated.elf$/\1/p' examples/generated/README.md)
+    came=$(sha256sum <"$folder/generated.elf")
+    if [ "${came%% *}" != "$wanted" ]; then
+        echo "examples: the image of examples/generated/generated.s has the SHA-256 ${came%% *}, and its page says $wanted"
+        exit 1
+    fi
+else
+    echo "examples: sha256sum is not installed, so the image of examples/generated/generated.s was not compared"
+fi
 
 echo "examples: $count runs have their reports"

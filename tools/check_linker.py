@@ -4,11 +4,14 @@
     tools/check_linker.py [--program PATH] [--build-only]
 
 Each program shows its code, its data and its zeros on the console and stops the machine. The bytes wanted are those that
-objcopy takes out of the file, and zeros. --build-only builds and does not run. Ends with status 1 at the first difference.
+objcopy takes out of the file, and zeros. Then the listing of each file is to have one line for each whole word of the bytes that the
+file has of its segments, with the word's address and digits. --build-only builds and does not run. Ends with status 1 at the first
+difference.
 """
 
 import argparse
 import pathlib
+import struct
 import subprocess
 import sys
 import tempfile
@@ -73,6 +76,33 @@ def console_line(data):
     return f"console 0 {len(data)} " + "".join(map(shown, data))
 
 
+def words_of(path):
+    """The address and the number of each whole word of the bytes that a file has of its segments, in order."""
+    data = path.read_bytes()
+    table, = struct.unpack_from("<Q", data, 32)
+    count, = struct.unpack_from("<H", data, 56)
+    words = []
+    for number in range(count):
+        kind, _, offset, _, address, size, memory, _ = struct.unpack_from("<IIQQQQQQ", data, table + 56 * number)
+        if kind == 1 and memory:
+            words += [(address + at, *struct.unpack_from("<I", data, offset + at)) for at in range(0, size - 3, 4)]
+    return words
+
+
+def listing_fault(program, path):
+    """What is wrong with the listing of a file, or None."""
+    listing = subprocess.run([program, "dis", str(path)], capture_output=True, text=True, timeout=60)
+    lines, words = listing.stdout.splitlines(), words_of(path)
+    if listing.returncode != 0:
+        return f"dis ended with {listing.returncode}: {listing.stdout}{listing.stderr}"
+    if len(lines) != len(words):
+        return f"wanted {len(words)} lines of dis, and {len(lines)} came"
+    for line, (address, word) in zip(lines, words):
+        if not line.startswith(f"{address:016x} {word:08x} "):
+            return f"wanted a line of {address:016x} {word:08x}, and '{line}' came"
+    return None
+
+
 def main():
     parser = argparse.ArgumentParser(description=__doc__, formatter_class=argparse.RawDescriptionHelpFormatter)
     parser.add_argument("--program", default=str(TOP / "crates/radix/out/radix"))
@@ -95,7 +125,12 @@ def main():
                 print(f"check_linker: {layout}: wanted a DeviceStop and\n  {line}\ncame\n{run.stdout}{run.stderr}")
                 print("Build it by the first line of examples/linked/README.md and run it, to see which side is wrong.")
                 return 1
-    print(f"check_linker: {len(LAYOUTS)} programs " + ("are built" if options.build_only else "show their own bytes"))
+            fault = listing_fault(options.program, path)
+            if fault is not None:
+                print(f"check_linker: {layout}: {fault}")
+                return 1
+    said = "are built" if options.build_only else "show their own bytes, and their words are listed"
+    print(f"check_linker: {len(LAYOUTS)} programs {said}")
     return 0
 
 

@@ -1,7 +1,7 @@
 #!/bin/bash
 # Builds the programs of examples/linked with Debian's gcc and ld for powerpc64le, in several layouts, runs each, and compares
-# what it shows on the console with the bytes that objcopy takes out of the file. Options go to check_linker.py. Without the
-# tools there is nothing to build: the check then says so and passes.
+# what it shows on the console with the bytes that objcopy takes out of the file, and its listing with the words of the file.
+# Options go to check_linker.py. Without the tools there is nothing to build: the check then says so and passes.
 set -eu
 
 directory=$(cd "$(dirname "$0")" && pwd)
