@@ -1,6 +1,6 @@
 //! The code of a generated image.
 
-ghost use Rattle.std.specs.Prelude.{◌≡◌, ◌++◌, ◌≤◌, ◌<◌, length, OnOk};
+ghost use Rattle.std.specs.Prelude.{◌≡◌, ◌++◌, ◌≤◌, length, OnOk};
 ghost use Rattle.ppc_ops.specs.Forms.{IsForm};
 ghost use Rattle.gen_image.specs.Code as said;
 ghost use Rattle.gen_image.specs.Forms.{AreForms};

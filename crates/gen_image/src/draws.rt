@@ -1,6 +1,6 @@
 //! Numbers that are drawn, in a fixed order for each seed.
 
-ghost use Rattle.std.specs.Prelude.{◌≡◌, ◌*◌, ◌≤◌, ◌<◌, IfOk};
+ghost use Rattle.std.specs.Prelude.{◌≡◌, ◌*◌, ◌≤◌, IfOk};
 ghost use Rattle.gen_image.specs.Draws as said;
 
 use std::alloc::{AllocError, Global};

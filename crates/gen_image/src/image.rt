@@ -1,6 +1,5 @@
 //! Generated images.
 
-ghost use Rattle.std.specs.Prelude.{◌≡◌};
 ghost use Rattle.gen_image.specs.Generated.{Generates};
 
 use crate::draws::all_draws;

@@ -1,6 +1,6 @@
 //! The tables of a generated image.
 
-ghost use Rattle.std.specs.Prelude.{◌≡◌, ◌++◌, ◌≤◌, ◌<◌, ◌^◌, ◌∷◌, [], replicate, OnOk};
+ghost use Rattle.std.specs.Prelude.{◌≡◌, ◌++◌, ◌<◌, ◌^◌, ◌∷◌, [], replicate, OnOk};
 ghost use Rattle.gen_image.specs.Tables as said;
 
 use std::alloc::AllocError;
