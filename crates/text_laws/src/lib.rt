@@ -4,3 +4,6 @@
 mod laws;
 
 pub use laws::{names_differ, texts_assemble, texts_differ, words_assemble};
+
+#[cfg(test)]
+mod tests;
