@@ -1,0 +1,6 @@
+pub mod AddedLemmas
+pub mod LastFill
+pub mod LevelLemmas
+pub mod NumberLemmas
+pub mod OwnStages
+pub mod RowLemmas
