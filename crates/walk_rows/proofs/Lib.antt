@@ -1,4 +1,5 @@
 pub mod AddedLemmas
+pub mod FreshLemmas
 pub mod LastFill
 pub mod LevelLemmas
 pub mod NumberLemmas
