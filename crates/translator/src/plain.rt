@@ -1,15 +1,13 @@
-//! Translation for asks that are real addresses.
+//! Translation that keeps nothing.
 
-ghost use Rattle.std.specs.Prelude.{◌≡◌};
-ghost use Rattle.journal_core.specs.Places.{place_of};
-ghost use Rattle.translator.specs.Choices.{answer_at};
+use journal_core::{Ask, DoneRow, Found, Journal, Place, TableReader, Translate, Use};
+use nested_walk::place_of;
+use walk_rows::fresh_answer;
 
-use journal_core::{
-    AccessKind, Ask, DoneRow, Found, Journal, StopName, TableReader, Translate, Use,
-};
-use ppc_spr::Msr;
-
-/// Answers asks that are real addresses, of every thread, and stops at any other. It keeps nothing and reads no table.
+/// Translates each address by a walk of its own, for every thread and beside every journal, and keeps nothing.
+///
+/// An ask that points at a real address is answered by it. Any other is answered by the walk of the tables as they stand (Power ISA,
+/// Book III, radix tree translation): the journal gets the walk's readings, and where it ends in a page the fill of the ask.
 #[derive(Clone, Copy, Debug)]
 pub struct Plain;
 
@@ -18,52 +16,39 @@ impl Plain {
     pub fn new() -> Plain {
         Plain
     }
-
-    /// The answer for an ask. In hypervisor state without relocation the effective address without its four highest bits is the
-    /// real address (Power ISA, Book III, 5.7.3); any other ask is the stop `NoTranslation` with 0.
-    #[tactic(auto, unfolding(journal_core::specs::Places::place_of))]
-    pub fn answer(&self, ask: &Ask) -> Found
-        ensures { result ≡ answer_at (place_of ask.now) }
-    {
-        let msr = Msr(ask.msr);
-        let relocates = match ask.access {
-            AccessKind::Fetch => msr.relocates_fetches(),
-            AccessKind::Load | AccessKind::Store => msr.relocates_data(),
-        };
-        if relocates || !msr.is_hypervisor() {
-            Found::Stop(StopName::NoTranslation, 0)
-        } else {
-            let at = ask.ea % (1 << 60);
-            Found::Real(at, Use::Real(at))
-        }
-    }
 }
 
 impl Translate for Plain {
-    ghost use Rattle.translator.specs.Choices.{RealChoice};
+    ghost use Rattle.journal_core.specs.Choice.{PlainChoice};
+    ghost use Rattle.walk_laws.proofs.ChoiceStays.{plain_choice_goes_on};
 
     ghost has_thread = { λ s t. Unit {0} };
 
     ghost fits = { λ s j values. Unit {0} };
 
-    ghost chooses = { RealChoice };
+    ghost chooses = { PlainChoice };
 
     fn translate<R: TableReader>(
         &mut self,
-        _reader: &R,
-        _journal: &mut Journal,
-        _thread: u8,
+        reader: &R,
+        journal: &mut Journal,
+        thread: u8,
         ask: &Ask,
-        _moment: u32,
+        moment: u32,
     ) -> Found {
-        self.answer(ask)
+        match place_of(ask) {
+            Place::Real(at) => Found::Real(at, Use::Real(at)),
+            Place::GuestReal(_, _) | Place::Space(_, _, _) | Place::Segment => {
+                fresh_answer(reader, journal, thread, ask, moment)
+            }
+        }
     }
 
     fn complete(&mut self, _journal: &Journal, _row: &DoneRow) {}
 
     ghost stays = { λ s j k values same fits. tt };
 
-    ghost chosen_stays = { λ q new found after on within named chosen. record { is = chosen.is; same = chosen.same } };
+    ghost chosen_stays = { plain_choice_goes_on };
 
     ghost any_values = { λ s j values new same fits. tt };
 }
