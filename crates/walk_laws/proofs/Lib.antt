@@ -21,6 +21,8 @@ pub mod ExamplesStale
 pub mod SamePage
 pub mod AlikeWalks
 pub mod FreedWalks
+mod ConfinedLemmas
+mod LowBits
 pub mod AnswersStay
 pub mod ExamplesAnswers
 pub mod ChoiceStays
