@@ -21,8 +21,9 @@ pub mod ExamplesStale
 pub mod SamePage
 pub mod AlikeWalks
 pub mod FreedWalks
-mod ConfinedLemmas
-mod LowBits
+pub mod StageCases
+pub mod LowBits
+pub mod ConfinedLemmas
 pub mod AnswersStay
 pub mod ExamplesAnswers
 pub mod ChoiceStays
