@@ -1,6 +1,6 @@
 -- Which answers of a translation keep the rule of a step, and which uses, reads and fills its row then has. A journal of any
 -- lawful translator keeps this; which of the lawful answers the machine gives is its choice.
-use Rattle.std.specs.Prelude.{◌≡◌, ℕ, ◌+◌, ◌≤◌, ◌<◌, List, [], ◌∷◌, length, slice_get, Contains, Option, Some, ◌⊎◌}
+use Rattle.std.specs.Prelude.{◌≡◌, ℕ, ◌+◌, ◌≤◌, ◌<◌, List, [], ◌∷◌, length, slice_get, Contains, Option, Some}
 use Rattle.std.specs.List.{AllByRecursion, range_with_len}
 use Rattle.journal_core.specs.declared.rows.ReadRow.{ReadRow}
 use Rattle.journal_core.specs.declared.rows.FillRow.{FillRow}
@@ -21,7 +21,6 @@ use Rattle.journal_core.specs.Resumed.{numbers_of}
 use Rattle.journal_core.specs.Fills.{fills_of_query, new_rows}
 use Rattle.journal_core.specs.Admitted.{IsReadBy, IsWalkTo, IsRight}
 use Rattle.journal_core.specs.Choice.{SameMark, added, ByKind, IsFault, IsStop}
-use Rattle.journal_core.specs.Early.{IsUntranslated}
 
 -- the readings with these numbers as items of a walk that began when there were so many reads: a lower number is an old
 -- reading, any other a new one
@@ -91,7 +90,7 @@ pub record IsAnswer (past : ℕ → ℕ → Option ℕ) (q : Query) (found : Fou
   pub named : AreRows q.turn.rows.reads (named_by q.turn.rows.fills (use_of found)) readings
   pub read : AllByRecursion (IsReadBy past q.turn.step) readings
   pub current : AllByRecursion (IsCurrent q.turn.rows.dones q.turn.thread q.turn.step) readings
-  pub walk : ByKind q (IsHit q readings) (IsWalked q readings) (IsFault q) (λ name value to. IsStop q name value to ⊎ IsUntranslated q name value to) found after
+  pub walk : ByKind q (IsHit q readings) (IsWalked q readings) (IsFault q) (IsStop q) found after
   pub right : IsRightFor q.ask readings (use_of found)
 
 -- the answers for a step's asks by a relation, in their order, each from where the one before it left off

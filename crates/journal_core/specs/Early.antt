@@ -1,17 +1,7 @@
--- What stands for a time: the stop for addresses that are not translated, and the choice of a machine that keeps translations
--- and guest pages alone.
-use Rattle.std.specs.Prelude.{◌≡◌, ℕ}
-use Rattle.journal_core.specs.declared.rows.StopName.{StopName}
-use Rattle.journal_core.specs.declared.rows.StopName.TheVariants.{NoTranslation}
+-- What stands for a time: the choice of a machine that keeps translations and guest pages alone.
 use Rattle.journal_core.specs.declared.asks.Found.{Found}
 use Rattle.journal_core.specs.Turns.{Mark, Query}
-use Rattle.journal_core.specs.Choice.{SameMark, ByKind, NonePermits, ChoseHit, AddsOwn, IsFault, IsStop}
-
--- an ask that is to be translated is answered by this stop, which then counts as the outcome of the fresh walk, and adds nothing
-pub record IsUntranslated (q : Query) (name : StopName) (value : ℕ) (after : Mark) : Type 0 where
-  pub named : name ≡ NoTranslation
-  pub nothing : value ≡ 0
-  pub same : SameMark q.before after
+use Rattle.journal_core.specs.Choice.{ByKind, NonePermits, ChoseHit, AddsOwn, IsFault, IsStop}
 
 -- the choice of a machine that keeps translations and guest pages alone: a standing one that permits, else the fresh walk's
 -- answer

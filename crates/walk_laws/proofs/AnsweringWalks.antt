@@ -27,7 +27,7 @@ use Rattle.journal_core.specs.PartResumed.{kept_for}
 use Rattle.journal_core.specs.Fills.{OldsBelow}
 use Rattle.journal_core.specs.Admitted.{IsReadBy, IsWalkTo, IsRight}
 use Rattle.journal_core.specs.Choice.{WalkedBy}
-use Rattle.walk_laws.specs.KeptLaws.{IsReadyFor}
+use Rattle.walk_laws.specs.KeptLaws.{AreWords, IsReadyFor}
 use Rattle.journal_core.proofs.StandingStays.{all_get, standing_goes_back}
 use Rattle.walk_laws.proofs.ChoiceStays.{AreBelow, names_below, fresh_olds}
 use Rattle.walk_laws.proofs.FreedWalks.{permitted_walks}
@@ -37,8 +37,8 @@ use Rattle.walk_laws.proofs.ResumedReadingsLemmas.{StandingAll, resumed_all, res
 
 -- a walk answers: its old readings were there before, its readings are true and current, and they lead to a page that the rights
 -- in them permit
-pub record AnsweringWalk (past : ℕ → ℕ → Option ℕ) (q : Query) (old : Rows) (items : List TrailItem) (real : ℕ) : Type 0 where
-  pub olds : OldsBelow (length old.reads) items
+pub record AnsweringWalk (past : ℕ → ℕ → Option ℕ) (q : Query) (items : List TrailItem) (real : ℕ) : Type 0 where
+  pub olds : OldsBelow q.before.reads items
   pub read : AllByRecursion (IsReadBy past q.turn.step) (readings q.turn.rows.reads items)
   pub current : AllByRecursion (IsCurrent q.turn.rows.dones q.turn.thread q.turn.step) (readings q.turn.rows.reads items)
   pub walk : IsWalkTo q.ask (readings q.turn.rows.reads items) real
@@ -112,21 +112,21 @@ standing_true past q old ready i f h =
     named_true past old.reads (fill_reads f) back.readings ready.reads back.named
 
 -- what is read now is true
-pub new_true : (past : ℕ → ℕ → Option ℕ) (q : Query) (old : Rows) → IsReadyFor past q old → (sought : ℕ) (r : ReadRow) → IsNew q.word q.turn.step sought r → IsTrueReading past r
-new_true past q old ready sought r h = subst (λ m. past m r.at ≡ Some r.value) (sym h.same_moment) (sym (ready.word r.at) ∙ h.stands)
+pub new_true : (past : ℕ → ℕ → Option ℕ) (q : Query) → AreWords past q → (sought : ℕ) (r : ReadRow) → IsNew q.word q.turn.step sought r → IsTrueReading past r
+new_true past q word sought r h = subst (λ m. past m r.at ≡ Some r.value) (sym h.same_moment) (sym (word r.at) ∙ h.stands)
 
 -- a walk that uses what stands answers
-resumed_answers : (past : ℕ → ℕ → Option ℕ) (q : Query) (old : Rows) (a : KeptAnswers) (items : List TrailItem) (real : ℕ) → IsReadyFor past q old → KnowsStanding q.turn q.before.fills a → Resumed q.word q.turn.step a q.ask items (Page real) → AnsweringWalk past q old items real
+resumed_answers : (past : ℕ → ℕ → Option ℕ) (q : Query) (old : Rows) (a : KeptAnswers) (items : List TrailItem) (real : ℕ) → IsReadyFor past q old → KnowsStanding q.turn q.before.fills a → Resumed q.word q.turn.step a q.ask items (Page real) → AnsweringWalk past q items real
 resumed_answers past q old a items real ready knows h =
     let k : Task = task_of (first_denial q.ask) q.ask in
     let s : Stage = start_of (first_denial q.ask) q.ask in
     let w : WalksFrom q.word k s (readings a.reads items) (Page real) = resumed_walks q.word q.turn.step a k s (owed_at a (place_of q.ask)) items (Page real) h in
     let right : IsRight q.ask (readings a.reads items) real = page_ends q.word (stage_after k s (readings a.reads items)) real w.ends in
     let current : AllByRecursion (IsCurrent q.turn.rows.dones q.turn.thread q.turn.step) (readings a.reads items) = resumed_current q.word q.turn q.before.fills a q.ask items (Page real) knows h in
-    let stood : AllByRecursion (IsTrueReading past) (readings a.reads items) = resumed_all (IsTrueReading past) q.word q.turn q.before.fills a q.ask items (Page real) (standing_true past q old ready) (new_true past q old ready) knows h in
+    let stood : AllByRecursion (IsTrueReading past) (readings a.reads items) = resumed_all (IsTrueReading past) q.word q.turn q.before.fills a q.ask items (Page real) (standing_true past q old ready) (new_true past q ready.word) knows h in
     let same : readings a.reads items ≡ readings q.turn.rows.reads items = ap (λ xs. readings xs items) knows.reads in
     record {
-      olds = olds_before (length old.reads) q.word q.turn.step a k s (owed_at a (place_of q.ask)) items (Page real) (λ lpid gra. page_below past q old a lpid gra (a.page lpid gra) ready knows (knows.pages lpid gra)) (owed_before past q old a (place_of q.ask) ready knows) h;
+      olds = subst (λ m. OldsBelow m items) (sym (ap (λ r. r.reads) ready.before)) (olds_before (length old.reads) q.word q.turn.step a k s (owed_at a (place_of q.ask)) items (Page real) (λ lpid gra. page_below past q old a lpid gra (a.page lpid gra) ready knows (knows.pages lpid gra)) (owed_before past q old a (place_of q.ask) ready knows) h);
       read = subst (AllByRecursion (IsReadBy past q.turn.step)) same (read_by past q.turn (readings a.reads items) current stood);
       current = subst (AllByRecursion (IsCurrent q.turn.rows.dones q.turn.thread q.turn.step)) same current;
       walk = subst (λ rs. IsWalkTo q.ask rs real) same (permitted_walks q.ask (readings a.reads items) real w.follows right);
@@ -143,16 +143,16 @@ new_readings reads [] = refl
 new_readings reads (r ∷ rs) = ap (λ (xs : List ReadRow). r ∷ xs) (new_readings reads rs)
 
 -- a fresh walk answers
-pub fresh_answers : (past : ℕ → ℕ → Option ℕ) (q : Query) (old : Rows) (rs : List ReadRow) (real : ℕ) → IsReadyFor past q old → Fresh q.word q.turn.step q.ask rs (Page real) → AnsweringWalk past q old (map New rs) real
-fresh_answers past q old rs real ready h =
+pub fresh_answers : (past : ℕ → ℕ → Option ℕ) (q : Query) (rs : List ReadRow) (real : ℕ) → AreWords past q → Fresh q.word q.turn.step q.ask rs (Page real) → AnsweringWalk past q (map New rs) real
+fresh_answers past q rs real word h =
     let k : Task = task_of (first_denial q.ask) q.ask in
     let s : Stage = start_of (first_denial q.ask) q.ask in
     let right : IsRight q.ask rs real = page_ends q.word (stage_after k s rs) real h.walk.ends in
     let current : AllByRecursion (IsCurrent q.turn.rows.dones q.turn.thread q.turn.step) rs = all_new (IsCurrent q.turn.rows.dones q.turn.thread q.turn.step) q.word q.turn.step k s rs (λ sought r new. new_current q.turn.rows.dones q.turn.thread q.turn.step r new.same_moment) h.new in
-    let stood : AllByRecursion (IsTrueReading past) rs = all_new (IsTrueReading past) q.word q.turn.step k s rs (new_true past q old ready) h.new in
+    let stood : AllByRecursion (IsTrueReading past) rs = all_new (IsTrueReading past) q.word q.turn.step k s rs (new_true past q word) h.new in
     let same : rs ≡ readings q.turn.rows.reads (map New rs) = sym (new_readings q.turn.rows.reads rs) in
     record {
-      olds = fresh_olds (length old.reads) rs;
+      olds = fresh_olds q.before.reads rs;
       read = subst (AllByRecursion (IsReadBy past q.turn.step)) same (read_by past q.turn rs current stood);
       current = subst (AllByRecursion (IsCurrent q.turn.rows.dones q.turn.thread q.turn.step)) same current;
       walk = subst (λ xs. IsWalkTo q.ask xs real) same (permitted_walks q.ask rs real h.walk.follows right);
@@ -160,6 +160,6 @@ fresh_answers past q old rs real ready h =
     }
 
 -- either answers
-pub walked_answers : (past : ℕ → ℕ → Option ℕ) (q : Query) (old : Rows) (a : KeptAnswers) (items : List TrailItem) (real : ℕ) → IsReadyFor past q old → KnowsStanding q.turn q.before.fills a → WalkedBy q a items real → AnsweringWalk past q old items real
+pub walked_answers : (past : ℕ → ℕ → Option ℕ) (q : Query) (old : Rows) (a : KeptAnswers) (items : List TrailItem) (real : ℕ) → IsReadyFor past q old → KnowsStanding q.turn q.before.fills a → WalkedBy q a items real → AnsweringWalk past q items real
 walked_answers past q old a items real ready knows (inl h) = resumed_answers past q old a items real ready knows h
-walked_answers past q old a items real ready knows (inr h) = subst (λ xs. AnsweringWalk past q old xs real) (sym h.2) (fresh_answers past q old h.1 real ready h.3)
+walked_answers past q old a items real ready knows (inr h) = subst (λ xs. AnsweringWalk past q xs real) (sym h.2) (fresh_answers past q h.1 real ready.word h.3)

@@ -1,6 +1,6 @@
 -- Answers that keep the rule of a step keep it when later rows come.
-use Rattle.std.proofs.Common.{◌≡◌, ℕ, zero, suc, ◌+◌, ◌-◌, ◌<◌, ◌≤◌, List, [], ◌∷◌, ◌++◌, length, map, Option, Some, true, arith, ap, sym, ◌∙◌, refl, subst, inl, inr}
-use Rattle.std.specs.Prelude.{slice_get, option_to_list, Contains, ◌⊎◌}
+use Rattle.std.proofs.Common.{◌≡◌, ℕ, zero, suc, ◌+◌, ◌-◌, ◌<◌, ◌≤◌, List, [], ◌∷◌, ◌++◌, length, map, Option, Some, true, arith, ap, sym, ◌∙◌, refl, subst}
+use Rattle.std.specs.Prelude.{slice_get, option_to_list, Contains}
 use Rattle.std.specs.List.{range_with_len, AllByRecursion}
 use Rattle.std.proofs.lemmas.List.{take-append-le}
 use Rattle.journal_core.specs.declared.rows.ReadRow.{ReadRow}
@@ -21,7 +21,6 @@ use Rattle.journal_core.specs.Standing.{fill_reads, AreRows}
 use Rattle.journal_core.specs.Resumed.{numbers_in, numbers_of}
 use Rattle.journal_core.specs.Fills.{NumberedItem, as_old, number_items, nothing_so_far, fills_of, fills_from, own_key}
 use Rattle.journal_core.specs.Choice.{SameMark, IsTranslated, ByKind, IsFault, IsStop, added}
-use Rattle.journal_core.specs.Early.{IsUntranslated}
 use Rattle.journal_core.specs.Answers.{AreItems, use_of, named_by, IsHit, IsWalked, IsAnswer, AreAnswered}
 use Rattle.journal_core.specs.Places.{place_of}
 use Rattle.journal_core.specs.Covers.{IsCurrent}
@@ -179,7 +178,7 @@ by_kind_on q r hit walked hit2 walked2 fault fault2 stop stop2 (Fault cause (Wal
 by_kind_on q r hit walked hit2 walked2 fault fault2 stop stop2 (Stop name value) after ask before on_hit on_walk on_fault on_stop h = (subst IsTranslated ask h.0, on_stop name value h.1)
 
 -- the fill that a use names is there
-walk_there : (q : Query) (rs : List ReadRow) (found : Found) (after : Mark) → ByKind q (IsHit q rs) (IsWalked q rs) (IsFault q) (λ name value to. IsStop q name value to ⊎ IsUntranslated q name value to) found after → IsThere q.turn.rows.fills (use_of found)
+walk_there : (q : Query) (rs : List ReadRow) (found : Found) (after : Mark) → ByKind q (IsHit q rs) (IsWalked q rs) (IsFault q) (IsStop q) found after → IsThere q.turn.rows.fills (use_of found)
 walk_there q rs (Real a (RealUse b)) after h = tt
 walk_there q rs (Real a (Hit i b)) after h = (h.2.fill, h.2.is)
 walk_there q rs (Real a (Walked i b)) after h = (h.2.fill, h.2.is)
@@ -198,11 +197,11 @@ answer_goes_on past q new found after on within h = record {
   named = numbers_go_on q.turn.rows new q.turn.step (use_of found) h.readings on h.named (walk_there q h.readings found after h.walk);
   read = h.read;
   current = all_stay_current q.turn.rows new q.turn.thread q.turn.step h.readings on h.current;
-  walk = by_kind_on q (query_later q new) (IsHit q h.readings) (IsWalked q h.readings) (IsHit (query_later q new) h.readings) (IsWalked (query_later q new) h.readings) (IsFault q) (IsFault (query_later q new)) (λ name value to. IsStop q name value to ⊎ IsUntranslated q name value to) (λ name value to. IsStop (query_later q new) name value to ⊎ IsUntranslated (query_later q new) name value to) found after refl refl
+  walk = by_kind_on q (query_later q new) (IsHit q h.readings) (IsWalked q h.readings) (IsHit (query_later q new) h.readings) (IsWalked (query_later q new) h.readings) (IsFault q) (IsFault (query_later q new)) (IsStop q) (IsStop (query_later q new)) found after refl refl
       (λ i real. hit_goes_on q new h.readings i real after on)
       (λ i real. walked_goes_on q new h.readings i real after on within)
       (λ cause first count. fault_goes_on q new cause first count after on within)
-      (λ name value s. elim s [ inl stop ↦ inl (stop_goes_on q new name value after stop) | inr untranslated ↦ inr (record { named = untranslated.named; nothing = untranslated.nothing; same = untranslated.same }) ]) h.walk;
+      (λ name value. stop_goes_on q new name value after) h.walk;
   right = h.right;
 }
 

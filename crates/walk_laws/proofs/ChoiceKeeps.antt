@@ -1,5 +1,5 @@
 -- A choice keeps the rule of a step.
-use Rattle.std.proofs.Common.{◌≡◌, ℕ, zero, suc, ◌+◌, ◌-◌, ◌<◌, ◌≤◌, List, [], ◌∷◌, ◌++◌, length, take, drop, map, Option, Some, None, arith, ap, sym, ◌∙◌, refl, subst, inl, length-append}
+use Rattle.std.proofs.Common.{◌≡◌, ℕ, zero, suc, ◌+◌, ◌-◌, ◌<◌, ◌≤◌, List, [], ◌∷◌, ◌++◌, length, take, drop, map, Option, Some, None, arith, ap, sym, ◌∙◌, refl, subst, length-append}
 use Rattle.std.specs.Prelude.{slice_get, option_to_list, Contains}
 use Rattle.std.specs.List.{range_with_len, AllByRecursion}
 use Rattle.std.proofs.lemmas.List.{append_assoc, append-nil}
@@ -35,7 +35,7 @@ use Rattle.journal_core.specs.Choice.{IsPermitted, IsTranslated, added, ByKind, 
 use Rattle.journal_core.specs.Early.{PagesChoice}
 use Rattle.journal_core.specs.Answers.{AreItems, IsAnswer}
 use Rattle.journal_core.specs.Translating.{IsWithin}
-use Rattle.walk_laws.specs.KeptLaws.{IsReadyFor}
+use Rattle.walk_laws.specs.KeptLaws.{AreWords, IsReadyFor}
 use Rattle.walk_laws.proofs.AlikeWalks.{no_way}
 use Rattle.walk_laws.proofs.WalkBounds.{walk-few}
 use Rattle.journal_core.proofs.StandingStays.{standing_goes_back}
@@ -143,7 +143,7 @@ items_are reads from first (Old j ∷ items) above within olds h =
     (olds.0, refl, items_are reads from first items above within olds.1 h)
 
 -- each element of a list is in it
-contains_self : {X : Type 0} (xs ys : List X) → AllByRecursion (λ x. Contains (ys ++ xs) x) xs
+pub contains_self : {X : Type 0} (xs ys : List X) → AllByRecursion (λ x. Contains (ys ++ xs) x) xs
 contains_self [] ys = tt
 contains_self (x ∷ xs) ys = (Contains-append_right ys (x ∷ xs) x (zero, omega arith, refl), subst (λ zs. AllByRecursion (λ y. Contains zs y) xs) (append_assoc ys (x ∷ []) xs) (contains_self xs (ys ++ x ∷ [])))
 
@@ -173,8 +173,8 @@ new_stand q items after to e =
     stand_from q.turn.rows.reads q.before.reads (new_rows items)
     (ap (λ m. take m (drop q.before.reads q.turn.rows.reads)) (taken_new q.before.reads (length (new_rows items)) ∙ ap (λ m. m - q.before.reads) (sym to)) ∙ e)
 
-own_of : (past : ℕ → ℕ → Option ℕ) (q : Query) (old : Rows) (items : List TrailItem) (real : ℕ) → IsTranslated q.ask → AnsweringWalk past q old items real → (own : FillRow) × IsOwnFill q items own
-own_of past q old items real away w =
+own_of : (past : ℕ → ℕ → Option ℕ) (q : Query) (items : List TrailItem) (real : ℕ) → IsTranslated q.ask → AnsweringWalk past q items real → (own : FillRow) × IsOwnFill q items own
+own_of past q items real away w =
     let t : ℕ = q.turn.thread in
     let n : ℕ = q.turn.step in
     let rows : List ReadRow = q.turn.rows.reads in
@@ -195,15 +195,14 @@ own_of past q old items real away w =
     )
 
 -- a walk that answers, and adds so, keeps the rule
-walked_keeps : (past : ℕ → ℕ → Option ℕ) (q : Query) (old : Rows) (items : List TrailItem) (own : FillRow) (i a b : ℕ) (after : Mark) → IsReadyFor past q old → IsWithin after q.turn.rows → IsTranslated q.ask → b ≡ a → AnsweringWalk past q old items a → IsOwnFill q items own → AddsItems q items own i after →
+walked_keeps : (past : ℕ → ℕ → Option ℕ) (q : Query) (items : List TrailItem) (own : FillRow) (i a b : ℕ) (after : Mark) → IsWithin after q.turn.rows → IsTranslated q.ask → b ≡ a → AnsweringWalk past q items a → IsOwnFill q items own → AddsItems q items own i after →
     IsAnswer past q (Real a (Walked i b)) after
-walked_keeps past q old items own i a b after ready within away same w o h =
+walked_keeps past q items own i a b after within away same w o h =
     let rows : List ReadRow = q.turn.rows.reads in
     let ns : List NumberedItem = number_items rows q.before.reads items in
     let stand : StandFrom rows q.before.reads (new_rows items) = new_stand q items after h.reads_to h.reads in
     let named : AreRows rows (numbers ns) (readings rows items) = subst (AreRows rows (numbers ns)) (rows_are rows q.before.reads items) (named_numbers rows ns (numbered rows q.before.reads items stand)) in
     let named_own : AreRows rows (fill_reads own) (readings rows items) = subst (λ is. AreRows rows is (readings rows items)) (sym o.reads) named in
-    let begun : q.before.reads ≡ length old.reads = ap (λ r. r.reads) ready.before in
     let inside : q.before.reads ≤ length rows = omega (arith, h.reads_to, within.reads) in
     record {
       readings = readings rows items;
@@ -223,7 +222,7 @@ walked_keeps past q old items own i a b after ready within away same w o h =
           few = h.few;
           walk = w.walk;
           items = items;
-          are_items = subst (λ is. AreItems rows q.before.reads is items) (sym o.reads) (items_are rows q.before.reads q.before.reads items (omega arith) inside (subst (λ m. OldsBelow m items) (sym begun) w.olds) stand);
+          are_items = subst (λ is. AreItems rows q.before.reads is items) (sym o.reads) (items_are rows q.before.reads q.before.reads items (omega arith) inside w.olds stand);
           reads_to = h.reads_to;
           reads = h.reads;
           fills = h.fills;
@@ -240,15 +239,14 @@ olds_longer m n (New r ∷ items) above h = olds_longer m n items above h
 chose_walk_keeps : (past : ℕ → ℕ → Option ℕ) (q : Query) (old : Rows) (i a b : ℕ) (after : Mark) → IsReadyFor past q old → IsWithin after q.turn.rows → IsTranslated q.ask → b ≡ a → ChoseWalk q i a after → IsAnswer past q (Real a (Walked i b)) after
 chose_walk_keeps past q old i a b after ready within away same h =
     let rows : List ReadRow = q.turn.rows.reads in
-    let w : AnsweringWalk past q old h.items a = walked_answers past q old h.known h.items a ready h.knows h.walked in
-    let o : (own : FillRow) × IsOwnFill q h.items own = own_of past q old h.items a away w in
+    let w : AnsweringWalk past q h.items a = walked_answers past q old h.known h.items a ready h.knows h.walked in
+    let o : (own : FillRow) × IsOwnFill q h.items own = own_of past q h.items a away w in
     let fills : added q.turn.rows.fills q.before.fills after.fills ≡ o.1.front ++ o.0 ∷ [] = h.adds.fills ∙ o.1.ends in
     let count : length (fills_of_query q h.items) ≡ length o.1.front + 1 = ap (λ (xs : List FillRow). length xs) o.1.ends ∙ length-append o.1.front (o.0 ∷ []) in
     let at : i ≡ q.before.fills + length o.1.front = omega (arith, count, h.adds.fills_to, h.adds.last) in
-    let begun : q.before.reads ≡ length old.reads = ap (λ r. r.reads) ready.before in
-    let olds : OldsBelow (length rows) h.items = olds_longer (length old.reads) (length rows) h.items (omega (arith, begun, h.adds.reads_to, within.reads)) w.olds in
+    let olds : OldsBelow (length rows) h.items = olds_longer q.before.reads (length rows) h.items (omega (arith, h.adds.reads_to, within.reads)) w.olds in
     let few : length (fills_of_query q h.items) ≤ 35 = at_most_35 q.turn.thread q.turn.step q.ask rows q.before.reads h.items a olds w.walk in
-    walked_keeps past q old h.items o.0 i a b after ready within away same w o.1 (record {
+    walked_keeps past q h.items o.0 i a b after within away same w o.1 (record {
       reads_to = h.adds.reads_to;
       reads = h.adds.reads;
       is = subst (λ j. slice_get q.turn.rows.fills j ≡ Some o.0) (sym at) (last_added q.turn.rows.fills o.1.front o.0 q.before.fills after.fills fills);
@@ -262,15 +260,15 @@ new_count : (rs : List ReadRow) → new_rows (map New rs) ≡ rs
 new_count [] = refl
 new_count (r ∷ rs) = ap (λ (xs : List ReadRow). r ∷ xs) (new_count rs)
 
-own_keeps : (past : ℕ → ℕ → Option ℕ) (q : Query) (old : Rows) (i a b : ℕ) (after : Mark) → IsReadyFor past q old → IsWithin after q.turn.rows → IsTranslated q.ask → b ≡ a → AddsOwn q i a after → IsAnswer past q (Real a (Walked i b)) after
-own_keeps past q old i a b after ready within away same h =
+own_keeps : (past : ℕ → ℕ → Option ℕ) (q : Query) (i a b : ℕ) (after : Mark) → AreWords past q → IsWithin after q.turn.rows → IsTranslated q.ask → b ≡ a → AddsOwn q i a after → IsAnswer past q (Real a (Walked i b)) after
+own_keeps past q i a b after word within away same h =
     let items : List TrailItem = map New h.rs in
-    let w : AnsweringWalk past q old items a = fresh_answers past q old h.rs a ready h.fresh in
-    let o : (own : FillRow) × IsOwnFill q items own = own_of past q old items a away w in
+    let w : AnsweringWalk past q items a = fresh_answers past q h.rs a word h.fresh in
+    let o : (own : FillRow) × IsOwnFill q items own = own_of past q items a away w in
     let fills : added q.turn.rows.fills q.before.fills after.fills ≡ o.0 ∷ [] = h.fills ∙ (ap last_of o.1.ends ∙ last_of_end o.1.front o.0) in
     let at : q.before.fills + 0 ≡ i = omega (arith, h.last) in
     let inside : AllByRecursion (λ f. Contains (fills_of_query q items) f) (o.0 ∷ []) = (subst (λ xs. Contains xs o.0) (sym o.1.ends) (Contains-append_right o.1.front (o.0 ∷ []) o.0 (zero, omega arith, refl)), tt) in
-    walked_keeps past q old items o.0 i a b after ready within away same w o.1 (record {
+    walked_keeps past q items o.0 i a b after within away same w o.1 (record {
       reads_to = h.reads_to ∙ ap (λ (xs : List ReadRow). q.before.reads + length xs) (sym (new_count h.rs));
       reads = h.reads ∙ sym (new_count h.rs);
       is = subst (λ j. slice_get q.turn.rows.fills j ≡ Some o.0) at (last_added q.turn.rows.fills [] o.0 q.before.fills after.fills fills);
@@ -304,15 +302,15 @@ from_named : (reads : List ReadRow) (first : ℕ) (rs : List ReadRow) → StandF
 from_named reads first [] h = tt
 from_named reads first (r ∷ rs) h = (h.0, from_named reads (first + 1) rs h.1)
 
-fault_keeps : (past : ℕ → ℕ → Option ℕ) (q : Query) (old : Rows) (cause : Cause) (first count : ℕ) (after : Mark) → IsReadyFor past q old → IsTranslated q.ask → IsFault q cause first count after → IsAnswer past q (Fault cause (Faulted first count)) after
-fault_keeps past q old cause first count after ready away h =
+fault_keeps : (past : ℕ → ℕ → Option ℕ) (q : Query) (cause : Cause) (first count : ℕ) (after : Mark) → AreWords past q → IsTranslated q.ask → IsFault q cause first count after → IsAnswer past q (Fault cause (Faulted first count)) after
+fault_keeps past q cause first count after word away h =
     let rows : List ReadRow = q.turn.rows.reads in
     let k : Task = task_of (first_denial q.ask) q.ask in
     let s : Stage = start_of (first_denial q.ask) q.ask in
     let stand : StandFrom rows q.before.reads h.readings = stand_from rows q.before.reads h.readings
     (ap (λ m. take m (drop q.before.reads rows)) (sym h.adds.count_is ∙ (taken_new q.before.reads count ∙ ap (λ m. m - q.before.reads) (sym h.adds.reads_to))) ∙ h.adds.reads) in
     let current : AllByRecursion (IsCurrent q.turn.rows.dones q.turn.thread q.turn.step) h.readings = all_new (IsCurrent q.turn.rows.dones q.turn.thread q.turn.step) q.word q.turn.step k s h.readings (λ sought r new. new_current q.turn.rows.dones q.turn.thread q.turn.step r new.same_moment) h.fresh.new in
-    let stood : AllByRecursion (IsTrueReading past) h.readings = all_new (IsTrueReading past) q.word q.turn.step k s h.readings (new_true past q old ready) h.fresh.new in
+    let stood : AllByRecursion (IsTrueReading past) h.readings = all_new (IsTrueReading past) q.word q.turn.step k s h.readings (new_true past q word) h.fresh.new in
     record {
       readings = h.readings;
       named = subst (λ m. AreRows rows (range_with_len m count) h.readings) (sym h.adds.first_is) (subst (λ m. AreRows rows (range_with_len q.before.reads m) h.readings) (sym h.adds.count_is) (from_named rows q.before.reads h.readings stand));
@@ -323,7 +321,7 @@ fault_keeps past q old cause first count after ready away h =
     }
 
 stop_keeps : (past : ℕ → ℕ → Option ℕ) (q : Query) (name : StopName) (value : ℕ) (after : Mark) → IsTranslated q.ask → IsStop q name value after → IsAnswer past q (Stop name value) after
-stop_keeps past q name value after away h = record { readings = []; named = tt; read = tt; current = tt; walk = (away, inl h); right = tt }
+stop_keeps past q name value after away h = record { readings = []; named = tt; read = tt; current = tt; walk = (away, h); right = tt }
 
 -- an answer by its kind keeps the rule, if each kind does
 keeps_by_kind : (past : ℕ → ℕ → Option ℕ) (q : Query) (hit walked : ℕ → ℕ → Mark → Type 0) (fault : Cause → ℕ → ℕ → Mark → Type 0) (stop : StopName → ℕ → Mark → Type 0) (found : Found) (after : Mark) →
@@ -347,15 +345,15 @@ choice_keeps past q old found after ready within h =
     keeps_by_kind past q (ChoseHit q) (ChoseWalk q) (λ cause first count to. NoneServes q × IsFault q cause first count to) (λ name value to. NoneServes q × IsStop q name value to) found after
     (λ i a b away same. hit_keeps past q old i a b after ready away same)
     (λ i a b away same. chose_walk_keeps past q old i a b after ready within away same)
-    (λ cause first count away f. fault_keeps past q old cause first count after ready away f.1)
+    (λ cause first count away f. fault_keeps past q cause first count after ready.word away f.1)
     (λ name value away s. stop_keeps past q name value after away s.1) h
 
-pub plain_choice_keeps : (past : ℕ → ℕ → Option ℕ) (q : Query) (old : Rows) (found : Found) (after : Mark) → IsReadyFor past q old → IsWithin after q.turn.rows → PlainChoice q found after → IsAnswer past q found after
-plain_choice_keeps past q old found after ready within h =
+pub plain_choice_keeps : (past : ℕ → ℕ → Option ℕ) (q : Query) (found : Found) (after : Mark) → AreWords past q → IsWithin after q.turn.rows → PlainChoice q found after → IsAnswer past q found after
+plain_choice_keeps past q found after word within h =
     keeps_by_kind past q (λ i real to. ⊥) (AddsOwn q) (IsFault q) (IsStop q) found after
     (λ i a b away same none. absurd none)
-    (λ i a b away same. own_keeps past q old i a b after ready within away same)
-    (λ cause first count away. fault_keeps past q old cause first count after ready away)
+    (λ i a b away same. own_keeps past q i a b after word within away same)
+    (λ cause first count away. fault_keeps past q cause first count after word away)
     (λ name value away. stop_keeps past q name value after away) h
 
 pub pages_choice_keeps : (past : ℕ → ℕ → Option ℕ) (q : Query) (old : Rows) (found : Found) (after : Mark) → IsReadyFor past q old → IsWithin after q.turn.rows → PagesChoice q found after → IsAnswer past q found after
@@ -363,6 +361,6 @@ pages_choice_keeps past q old found after ready within h =
     let None : Type 0 = NonePermits q.turn q.before.fills q.ask in
     keeps_by_kind past q (ChoseHit q) (λ i real to. None × AddsOwn q i real to) (λ cause first count to. None × IsFault q cause first count to) (λ name value to. None × IsStop q name value to) found after
     (λ i a b away same. hit_keeps past q old i a b after ready away same)
-    (λ i a b away same w. own_keeps past q old i a b after ready within away same w.1)
-    (λ cause first count away f. fault_keeps past q old cause first count after ready away f.1)
+    (λ i a b away same w. own_keeps past q i a b after ready.word within away same w.1)
+    (λ cause first count away f. fault_keeps past q cause first count after ready.word away f.1)
     (λ name value away s. stop_keeps past q name value after away s.1) h

@@ -1,5 +1,5 @@
 -- Answers that keep the rule of a step, and some that do not, by computation; each line says which definitions it exercises.
-use Rattle.std.proofs.Common.{◌≡◌, ℕ, suc, ◌≤◌, List, [], ◌∷◌, map, refl, Option, arith, inl, inr}
+use Rattle.std.proofs.Common.{◌≡◌, ℕ, suc, ◌≤◌, List, [], ◌∷◌, map, refl, Option, arith}
 use Rattle.std.specs.Prelude.{Contains}
 use Rattle.std.specs.List.{AllByRecursion}
 use Rattle.walk_laws.proofs.ExampleWalks.{trace, trace_follows, task, start}
@@ -23,7 +23,7 @@ use Rattle.journal_core.specs.Admitted.{IsReadBy, IsWalkTo, IsRight}
 use Rattle.journal_core.specs.Answers.{AreItems, IsAnswer}
 use Rattle.journal_core.specs.declared.rows.ReadRow.{ReadRow}
 use Rattle.journal_core.specs.declared.rows.Use.TheVariants.{Hit, Walked, Faulted}
-use Rattle.journal_core.specs.declared.rows.StopName.TheVariants.{NoStorage, NoTranslation}
+use Rattle.journal_core.specs.declared.rows.StopName.TheVariants.{NoStorage}
 use Rattle.journal_core.specs.declared.asks.Ask.{Ask}
 use Rattle.journal_core.specs.declared.asks.AccessKind.TheVariants.{Load, Store}
 use Rattle.journal_core.specs.declared.asks.Found.TheVariants.{Real, Fault, Stop}
@@ -133,11 +133,7 @@ away_answer = record {
 
 -- where storage has no word, a load is answered by the stop of the fresh walk (IsAnswer, IsStop)
 lost_answer : IsAnswer (λ n. no_word) (query_of (turn_of no_rows 0 0 7) no_word none_yet lost) (Stop NoStorage 0x2_0018) none_yet
-lost_answer = record { readings = []; named = tt; read = tt; current = tt; walk = (is_no_real, inl (record { readings = []; fresh = lost_walk; same = (refl, refl) })); right = tt }
-
--- or by the stop that no address is translated (IsUntranslated)
-untranslated_answer : IsAnswer past (query_of (turn_of no_rows 0 0 7) tables none_yet lost) (Stop NoTranslation 0) none_yet
-untranslated_answer = record { readings = []; named = tt; read = tt; current = tt; walk = (is_no_real, inr (record { named = refl; nothing = refl; same = (refl, refl) })); right = tt }
+lost_answer = record { readings = []; named = tt; read = tt; current = tt; walk = (is_no_real, record { readings = []; fresh = lost_walk; same = (refl, refl) }); right = tt }
 
 -- a store to a page that is not marked as changed: its readings are a walk to the page, and the rights in them refuse it
 -- (IsWalkTo, IsRight)

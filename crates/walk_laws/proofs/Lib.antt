@@ -21,6 +21,9 @@ pub mod ExamplesStale
 pub mod SamePage
 pub mod AlikeWalks
 pub mod FreedWalks
+pub mod StageCases
+pub mod LowBits
+pub mod ConfinedLemmas
 pub mod AnswersStay
 pub mod ExamplesAnswers
 pub mod ChoiceStays

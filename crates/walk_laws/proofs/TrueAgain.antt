@@ -1,6 +1,5 @@
 -- After an answer that keeps the rule all readings are true again.
-use Rattle.std.proofs.Common.{◌≡◌, ℕ, ◌+◌, ◌-◌, List, [], ◌∷◌, ◌++◌, length, take, drop, Option, Some, arith, ap, sym, ◌∙◌, refl, subst, inl, inr, length-append}
-use Rattle.std.specs.Prelude.{◌⊎◌}
+use Rattle.std.proofs.Common.{◌≡◌, ℕ, ◌+◌, ◌-◌, List, [], ◌∷◌, ◌++◌, length, take, drop, Option, Some, arith, ap, sym, ◌∙◌, refl, subst, length-append}
 use Rattle.std.specs.List.{AllByRecursion}
 use Rattle.journal_core.specs.declared.rows.ReadRow.{ReadRow}
 use Rattle.journal_core.specs.declared.rows.Use.TheVariants.{Unused, Real as RealUse, Hit, Walked, Faulted}
@@ -19,7 +18,6 @@ use Rattle.journal_core.specs.Resumed.{numbers_in}
 use Rattle.journal_core.specs.Fills.{new_rows}
 use Rattle.journal_core.specs.Admitted.{IsReadBy}
 use Rattle.journal_core.specs.Choice.{SameMark, ByKind, IsFault, IsStop, added}
-use Rattle.journal_core.specs.Early.{IsUntranslated}
 use Rattle.journal_core.specs.Answers.{AreItems, use_of, named_by, IsHit, IsWalked, IsAnswer}
 use Rattle.journal_core.specs.Translating.{AreTrue, OnlyAdds}
 use Rattle.walk_laws.proofs.AnsweringWalks.{all_new}
@@ -66,7 +64,7 @@ only_true past n (r ∷ rs) all = (all.0.1, only_true past n rs all.1)
 -- the readings that an answer added are true
 added_true : (past : ℕ → ℕ → Option ℕ) (q : Query) (old more : List ReadRow) (readings : List ReadRow) (found : Found) (after : Mark) → ((at : ℕ) → q.word at ≡ past q.turn.step at) → q.turn.rows.reads ≡ old ++ more → q.before.reads ≡ length old → after.reads ≡ length (old ++ more) →
     AreRows q.turn.rows.reads (named_by q.turn.rows.fills (use_of found)) readings → AllByRecursion (IsReadBy past q.turn.step) readings →
-    ByKind q (IsHit q readings) (IsWalked q readings) (IsFault q) (λ name value to. IsStop q name value to ⊎ IsUntranslated q name value to) found after → AllByRecursion (IsTrueReading past) more
+    ByKind q (IsHit q readings) (IsWalked q readings) (IsFault q) (IsStop q) found after → AllByRecursion (IsTrueReading past) more
 added_true past q old more readings found after word rows from to named read h = by_found found named h
   where
     nothing : SameMark q.before after → AllByRecursion (IsTrueReading past) more
@@ -78,7 +76,7 @@ added_true past q old more readings found after word rows from to named read h =
     new_is_true : (sought : ℕ) (r : ReadRow) → IsNew q.word q.turn.step sought r → IsTrueReading past r
     new_is_true sought r new = subst (λ m. past m r.at ≡ Some r.value) (sym new.same_moment) (sym (word r.at) ∙ new.stands)
 
-    by_found : (found : Found) → AreRows q.turn.rows.reads (named_by q.turn.rows.fills (use_of found)) readings → ByKind q (IsHit q readings) (IsWalked q readings) (IsFault q) (λ name value to. IsStop q name value to ⊎ IsUntranslated q name value to) found after → AllByRecursion (IsTrueReading past) more
+    by_found : (found : Found) → AreRows q.turn.rows.reads (named_by q.turn.rows.fills (use_of found)) readings → ByKind q (IsHit q readings) (IsWalked q readings) (IsFault q) (IsStop q) found after → AllByRecursion (IsTrueReading past) more
     by_found (Real a (RealUse b)) named h = nothing h.2
     by_found (Real a (Hit i b)) named h = nothing h.2.same
     by_found (Real a (Walked i b)) named h =
@@ -94,7 +92,7 @@ added_true past q old more readings found after word rows from to named read h =
     by_found (Fault cause (RealUse b)) named h = absurd h
     by_found (Fault cause (Hit i b)) named h = absurd h
     by_found (Fault cause (Walked i b)) named h = absurd h
-    by_found (Stop name value) named h = elim h.1 [ inl stop ↦ nothing stop.same | inr untranslated ↦ nothing untranslated.same ]
+    by_found (Stop name value) named h = nothing h.1.same
 
 pub true_again : (past : ℕ → ℕ → Option ℕ) (word : ℕ → Option ℕ) (old new : JournalView) (t : ℕ) (ask : Ask) (found : Found) → ((at : ℕ) → word at ≡ past (length old.rows.steps) at) → OnlyAdds old new → AreTrue past old.rows →
     IsAnswer past (query_of (turn_in new t (length old.rows.steps)) word (mark_of old.rows) ask) found (mark_of new.rows) → AreTrue past new.rows

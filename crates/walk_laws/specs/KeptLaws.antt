@@ -100,6 +100,10 @@ FillsAreFew = (t n : ℕ) (ask : Ask) (reads : List ReadRow) (first : ℕ) (item
 abbrev pub FillsOfWalksStay : Type 0
 FillsOfWalksStay = (old new : Rows) (more : List ReadRow) (ptcr : ℕ) (f : FillRow) → new.reads ≡ old.reads ++ more → IsFillOfWalk old ptcr f → IsFillOfWalk new ptcr f
 
+-- the words of storage as it stands are those of this step
+abbrev pub AreWords : (ℕ → ℕ → Option ℕ) → Query → Type 0
+AreWords past q = (at : ℕ) → q.word at ≡ past q.turn.step at
+
 -- What a journal knows before an answer: its fills' numbers name reads, its reads are true, and each fill that stands for the ask's
 -- thread was made by a finished walk under the ask's value of PTCR.
 pub record IsReadyFor (past : ℕ → ℕ → Option ℕ) (q : Query) (old : Rows) : Type 0 where
@@ -108,7 +112,7 @@ pub record IsReadyFor (past : ℕ → ℕ → Option ℕ) (q : Query) (old : Row
   pub named : AreNamed old.reads old.fills
   pub reads : AreTrue past old
   pub of_walks : (i : ℕ) (f : FillRow) → IsStanding (turn_later q.turn old) (length old.fills) i f → IsFillOfWalk old q.ask.ptcr f
-  pub word : (at : ℕ) → q.word at ≡ past q.turn.step at
+  pub word : AreWords past q
 
 -- a choice keeps the rule
 abbrev pub AChoiceKeepsTheRule : Type 0
@@ -120,9 +124,9 @@ abbrev pub APagesChoiceKeepsTheRule : Type 0
 APagesChoiceKeepsTheRule = (past : ℕ → ℕ → Option ℕ) (q : Query) (old : Rows) (found : Found) (after : Mark) → IsReadyFor past q old → IsWithin after q.turn.rows →
     PagesChoice q found after → IsAnswer past q found after
 
--- so does the fresh walk's answer
+-- so does the fresh walk's answer, whatever the journal knows
 abbrev pub APlainChoiceKeepsTheRule : Type 0
-APlainChoiceKeepsTheRule = (past : ℕ → ℕ → Option ℕ) (q : Query) (old : Rows) (found : Found) (after : Mark) → IsReadyFor past q old → IsWithin after q.turn.rows →
+APlainChoiceKeepsTheRule = (past : ℕ → ℕ → Option ℕ) (q : Query) (found : Found) (after : Mark) → AreWords past q → IsWithin after q.turn.rows →
     PlainChoice q found after → IsAnswer past q found after
 
 -- after an answer that keeps the rule all readings are true, if those before it were

@@ -1,5 +1,6 @@
 pub mod KeptBegins
 pub mod KeptLaws
+pub mod ConfinedLaws
 pub mod LastFourLaws
 pub mod OwnFill
 pub mod PartLaws

@@ -1,5 +1,6 @@
 //! Laws of the definitions of walks. Each function does nothing: its contract is the law.
 
+ghost use Rattle.walk_laws.specs.ConfinedLaws.{AdmittedAccessesAreConfined, AdmittedAccessesKeepLowBits};
 ghost use Rattle.walk_laws.specs.PartLaws.{NothingKeptIsFreshPart, PartResumedIsOne, PartResumedIsWalk, PartResumedIsShort, PartResumedIsInside};
 ghost use Rattle.walk_laws.specs.WalkLaws.{
   FreshWalkIsOne,
@@ -36,6 +37,13 @@ pub fn true_walk_is_one()
 /// Readings follow the walk of an ask by its rights to a page exactly where they are a walk to it which the rights permit.
 pub fn permitted_walk_is_walk()
     ensures { PermittedWalkIsWalk }
+{}
+
+/// An access that is admitted to a real address is confined, if it is a guest's: it reaches the pages alone that the partition's
+/// tree gives it. The low bits of the address stay.
+pub fn admitted_accesses_are_confined()
+    ensures confined { AdmittedAccessesAreConfined }
+    ensures low_bits { AdmittedAccessesKeepLowBits }
 {}
 
 /// Two walks of one address in a partition's tree whose words stand as they were read are equal in addresses, values and
