@@ -1,0 +1,4 @@
+pub mod Adds
+pub mod PartLaws
+pub mod Ranges
+pub mod Steps
