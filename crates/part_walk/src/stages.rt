@@ -1,15 +1,17 @@
 //! Where a partition's walk stands, step by step.
 
-ghost use Rattle.std.specs.Prelude.{◌≡◌, ◌^◌, ◌%◌, ◌<◌, ◌≤◌};
-ghost use Rattle.journal_core.specs.PartitionWalk.{at_node, part_start, after_entry, after_tree, leaf_of, part_next};
+ghost use Rattle.std.specs.Prelude.{◌≡◌, ◌^◌, ◌%◌, ◌<◌, ◌≤◌, IfSome};
+ghost use Rattle.journal_core.specs.PartitionWalk.{at_node, part_start, after_entry, after_tree, part_next};
+ghost use Rattle.table_formats.specs.Fitting.{Fits, IsRoot};
+ghost use Rattle.part_walk.specs.Entries.{partition_place, node, leaf_by, after_entry_of_tree};
 ghost use Rattle.part_walk.specs.Ranges.{IsSmallResult, IsInRange, IsInRangeOfTree};
 
-use crate::words::{bits, entry_place, has_entry, is_leaf, node_of, root_bits};
 use journal_core::{FaultKind, Node, PartResult, PartStage, StopName};
+use table_formats::{Entry, Pate, Ptcr, Root};
 
 /// Reads a table next, if it is one that is read: it indexes 5 to 16 bits and leaves at least 12.
 #[tactic(auto, unfolding(journal_core::specs::PartitionWalk::at_node))]
-pub fn read_table(node: Node) -> PartStage
+fn read_table(node: Node) -> PartStage
     requires base { node.base < 2 ^ 60 }
     requires even { node.base % 2 ^ 8 ≡ 0 }
     requires left { node.left ≤ 52 }
@@ -26,16 +28,41 @@ pub fn read_table(node: Node) -> PartStage
     }
 }
 
-/// Where a walk begins: at the partition's entry, if the partition table has one (Power ISA, Book III, 5.7.6).
+/// Where a tree begins whose root translates at most 52 bits.
+pub fn begin_tree(root: Root) -> PartStage
+    requires root { IsRoot root }
+    requires bits { root.bits ≤ 52 }
+    ensures stage { result ≡ at_node (node root.base root.size root.bits 1) }
+    ensures tree { IsInRangeOfTree result }
+    ensures range { IsInRange result }
+{
+    read_table(Node {
+        base: root.base,
+        size: root.size,
+        left: root.bits,
+        level: 1,
+    })
+}
+
+/// The place of a partition's entry, if the partition table has one (Power ISA, Book III, 5.7.6).
+pub fn partition_entry(ptcr: u64, lpid: u16) -> Option<u64>
+    ensures value { result ≡ partition_place ptcr lpid }
+    ensures small { IfSome result (λ at. at < 2 ^ 61) }
+{
+    let (base, size) = Ptcr::table(ptcr);
+    let offset = 16 * u64::from(lpid);
+    if offset < (1 << (12 + size)) { Some(base + offset) } else { None }
+}
+
+/// Where a walk begins: at the partition's entry, if there is one.
 #[tactic(auto, unfolding(journal_core::specs::PartitionWalk::part_start))]
 pub fn begin(ptcr: u64, lpid: u16) -> PartStage
     ensures stage { result ≡ part_start ptcr lpid }
     ensures range { IsInRange result }
 {
-    if has_entry(ptcr, lpid) {
-        PartStage::Entry(entry_place(ptcr, lpid))
-    } else {
-        PartStage::Ended(PartResult::Fault(FaultKind::Missing))
+    match partition_entry(ptcr, lpid) {
+        Some(at) => PartStage::Entry(at),
+        None => PartStage::Ended(PartResult::Fault(FaultKind::Missing)),
     }
 }
 
@@ -45,40 +72,66 @@ fn after_entry(lpid: u16, gra: u64, value: u64) -> PartStage
     ensures stage { result ≡ after_entry lpid gra value }
     ensures range { IsInRange result }
 {
-    if bits(value, 0, 0) == 0 {
+    if !Pate::radix(value) {
         return PartStage::Ended(PartResult::Stop(StopName::HashedPartition, u64::from(lpid)));
     }
-    let left = root_bits(value);
-    if left > 52 {
+    let root = Pate::root(value);
+    if root.bits > 52 {
         return PartStage::Ended(PartResult::Fault(FaultKind::Unsupported));
     }
-    if gra >= (1 << left) {
+    if gra >= (1 << root.bits) {
         return PartStage::Ended(PartResult::Fault(FaultKind::Missing));
     }
-    read_table(node_of(value, left, 1))
+    begin_tree(root)
 }
 
-/// What a leaf gives that leaves so many bits.
-fn leaf(rest: u8, value: u64) -> PartResult
-    ensures value { result ≡ leaf_of rest value }
-    ensures small { IsSmallResult result }
+/// What an entry of a tree gives that is at this level and leaves so many bits.
+fn after_tree_entry(rest: u8, level: u8, entry: Entry) -> PartStage
+    requires rest { rest ≤ 52 }
+    requires level { level ≤ 4 }
+    requires fits { Fits entry }
+    ensures stage { result ≡ after_entry_of_tree rest level entry }
+    ensures tree { IsInRangeOfTree result }
+    ensures range { IsInRange result }
 {
-    if rest == 12 || rest == 16 || rest == 21 || rest == 30 {
-        PartResult::Leaf {
-            page: bits(value, 7, 51) * 4096,
-            bits: rest,
-            att: bits(value, 58, 59) as u8,
-            eaa: bits(value, 60, 63) as u8,
-            r: bits(value, 55, 55) == 1,
-            c: bits(value, 56, 56) == 1,
+    match entry {
+        Entry::Invalid => PartStage::Ended(PartResult::Fault(FaultKind::Missing)),
+        Entry::Leaf {
+            page,
+            r,
+            c,
+            att,
+            eaa,
+        } => PartStage::Ended(if rest == 12 || rest == 16 || rest == 21 || rest == 30 {
+            PartResult::Leaf {
+                page,
+                bits: rest,
+                att,
+                eaa,
+                r,
+                c,
+            }
+        } else {
+            PartResult::Fault(FaultKind::Unsupported)
+        }),
+        Entry::Directory { base, size } => {
+            if level >= 4 {
+                PartStage::Ended(PartResult::Fault(FaultKind::Unsupported))
+            } else {
+                read_table(Node {
+                    base,
+                    size,
+                    left: rest,
+                    level: level + 1,
+                })
+            }
         }
-    } else {
-        PartResult::Fault(FaultKind::Unsupported)
     }
 }
 
-/// After a tree's entry at this level that leaves so many bits (Power ISA, Book III, 5.7.11).
-#[tactic(auto, unfolding(journal_core::specs::PartitionWalk::after_tree))]
+/// After the word of a tree's entry at this level that leaves so many bits (Power ISA, Book III, 5.7.11).
+///
+/// A leaf gives a page of 4 KiB, 64 KiB, 2 MiB or 1 GiB; a directory at level 4 names no table.
 pub fn after_tree(rest: u8, level: u8, value: u64) -> PartStage
     requires rest { rest ≤ 52 }
     requires level { level ≤ 4 }
@@ -86,16 +139,7 @@ pub fn after_tree(rest: u8, level: u8, value: u64) -> PartStage
     ensures tree { IsInRangeOfTree result }
     ensures range { IsInRange result }
 {
-    if bits(value, 0, 0) == 0 {
-        return PartStage::Ended(PartResult::Fault(FaultKind::Missing));
-    }
-    if is_leaf(value) {
-        return PartStage::Ended(leaf(rest, value));
-    }
-    if level >= 4 {
-        return PartStage::Ended(PartResult::Fault(FaultKind::Unsupported));
-    }
-    read_table(node_of(value, rest, level + 1))
+    after_tree_entry(rest, level, Entry::read(value))
 }
 
 /// Where a walk stands after a value.
