@@ -1,0 +1,6 @@
+use super::*;
+
+#[test]
+fn nothing_is_invalid(rt: HostRuntime) {
+    assert!(rt; Entry::read(0) == Entry::Invalid);
+}
