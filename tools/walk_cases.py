@@ -205,7 +205,7 @@ def edges_of_ram(cases):
     for at in (layout.entry_at, *found):
         for more in (0, 1, 7, 8):
             cases.add(f"RAM ends {more} bytes into the word at {at:x}", layout.words, (PTCR, 1, 0x123456789), at + more)
-    for ram in (0, 7, 8, 0x10000000):
+    for ram in (0, 7, 8, 0x1100000):
         cases.add(f"RAM of {ram:x} bytes, and the partition table at 0", {0: 0}, (0, 0, 0), ram)
     highest = 0x0FFF_FFFF_FFFF_F000
     cases.add("the partition table at the top", {}, (highest, 0, 0))
