@@ -6,8 +6,8 @@
 import itertools
 
 from table_walks import ACCESSES, Ask
-from walk_layouts import PTCR, Layout, Nested, Own, Tree, directory, leaf, root, up_to
-from walk_rows import GUEST, HYPERVISOR, PROBLEM, UNRELOCATED, deep_tables
+from walk_layouts import PTCR, Layout, Nested, Own, directory, leaf, root
+from walk_rows import GUEST, HYPERVISOR, PROBLEM, UNRELOCATED
 
 OUTSIDE = 0x7F000000  # no RAM is there, nor does a tree of 31 bits end below it
 TWO = (31, (10, 9))
@@ -20,8 +20,8 @@ RIGHTS = [
     (0x197, "of attribute 1"), (0x1B7, "of attribute 3"),
 ]
 TWO_RIGHTS = [
-    (0x180, "no right"), (0x188, "privileged, with no right"), (0x08F, "privileged, and not referenced"), (0x081, "not read, not referenced"),
-    (0x105, "not written, not changed"), (0x1A6, "not executed, guarded"), (0x0A7, "guarded, not referenced"),
+    (0x180, "no right"), (0x188, "privileged, with no right"), (0x08F, "privileged, and not referenced"),
+    (0x081, "not read, not referenced"), (0x105, "not written, not changed"), (0x1A6, "not executed, guarded"), (0x0A7, "guarded, not referenced"),
     (0x007, "not referenced, not changed"), (0x000, "nothing at all"), (0x1A8, "privileged, guarded, with no right"),
 ]
 
@@ -133,8 +133,8 @@ def whole_partition(cases):
     beyond = 1 << 31
     entry = layout.words[layout.entry_at]
     entries = [
-        ("hashed", entry & ~(1 << 63)), ("of 53 bits", entry | 1 << 62 | 6 << 5), ("of size 4", entry & ~31 | 4), ("of size 20", entry & ~31 | 20),
-        ("outside RAM", root(31, OUTSIDE, 10)),
+        ("hashed", entry & ~(1 << 63)), ("of 53 bits", entry | 1 << 62 | 6 << 5), ("of size 4", entry & ~31 | 4),
+        ("of size 20", entry & ~31 | 20), ("outside RAM", root(31, OUTSIDE, 10)),
     ]
     for msr, access, (title, word) in itertools.product((GUEST, UNRELOCATED), ACCESSES, entries):
         state = "" if msr == GUEST else ", guest real"
@@ -235,8 +235,8 @@ def gaps(cases):
     cases.add("RAM ends after the last word", deep.words, ask_of(deep, "Load"), max(deep.words) + 8)
     for name, _, places, msr, ea in goals_of(deep):
         for level in range(3):
-            word = directory(OUTSIDE, 9)
-            cases.add(f"{name}: level {level + 2} is outside RAM", deep.changed({places[level]: word}), ask_of(deep, next(accesses), msr, ea))
+            words = deep.changed({places[level]: directory(OUTSIDE, 9)})
+            cases.add(f"{name}: level {level + 2} is outside RAM", words, ask_of(deep, next(accesses), msr, ea))
     for name, places in [(name, places) for name, (_, places) in layout.goals.items()]:
         for access in ACCESSES:
             word = leaf(OUTSIDE)
@@ -281,14 +281,17 @@ def own_processes(cases):
     first, second = layout.goals["the process's entry"][1]
     at, entry = layout.real(layout.entry), layout.words[layout.real(layout.entry)]
     changes = [
-        ("as it is", {}), ("no entry at level 1", {first: 0}), ("no entry at level 2", {second: 0}), ("a table of size 4", {first: directory(0x30000, 4)}),
+        ("as it is", {}), ("no entry at level 1", {first: 0}), ("no entry at level 2", {second: 0}),
+        ("a table of size 4", {first: directory(0x30000, 4)}),
         ("a directory last", {second: directory(0x30000, 5)}), ("its table outside RAM", {first: directory(OUTSIDE, 9)}),
         ("an entry's page outside RAM", {second: leaf(OUTSIDE)}), ("hashed", {layout.entry_at: 0}),
         ("53 bits", {layout.entry_at: root(53, 0x30000, 10)}), ("the process table beyond", {layout.entry_at + 8: 1 << 31}),
         ("a process of 53 bits", {at: root(53, 0x30000, 10)}), ("a process of size 4", {at: entry & ~31 | 4}),
-        ("a process's root outside RAM", {at: root(31, OUTSIDE, 10)}), ("a process's table outside RAM", {layout.steps[0]: directory(OUTSIDE, 9)}),
+        ("a process's root outside RAM", {at: root(31, OUTSIDE, 10)}),
+        ("a process's table outside RAM", {layout.steps[0]: directory(OUTSIDE, 9)}),
         ("nothing at level 1", {layout.steps[0]: 0}), ("nothing at level 2", {layout.steps[1]: 0}),
-        ("a table of size 17", {layout.steps[0]: directory(0x30000, 17)}), ("a directory at the end", {layout.steps[1]: directory(0x30000, 5)}),
+        ("a table of size 17", {layout.steps[0]: directory(0x30000, 17)}),
+        ("a directory at the end", {layout.steps[1]: directory(0x30000, 5)}),
         ("tables of a partition's rights", {second: layout.words[second] & ~0xFFF | 0x181}),
         ("an entry that may only be read", {second: layout.words[second] & ~0xFFF | 0x104}),
     ]

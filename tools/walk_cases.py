@@ -47,8 +47,7 @@ class Cases:
     def __init__(self):
         self.asked, self.printed = [], []
         self.ram, self.words = None, {}
-        self.loop, self.number, self.counts = "", 0, collections.Counter()
-        self.outcomes = collections.Counter()
+        self.loop, self.counts, self.outcomes = "", collections.Counter(), collections.Counter()
 
     def begin(self, loop):
         """A loop of cases begins."""
@@ -72,9 +71,8 @@ class Cases:
 
     def add(self, title, words, query, ram=RAM):
         """A walk: of an ask, or of a partition's tree, given as (ptcr, lpid, gra). It answers the outcome and the readings."""
-        self.number += 1
         self.counts[self.loop] += 1
-        self.note(f"# {self.number} {title}")
+        self.note(f"# {self.counts[self.loop]} {title}")
         self.set_words(words, ram)
         memory = Memory(ram, words)
         if isinstance(query, Ask):
@@ -127,8 +125,10 @@ def widths_and_sizes(cases):
     gra = 0x7F123450
     for width in range(31, 63):
         layout, _ = laid_out(31, (10,), gra)
-        entry = root(width, layout.tree.base(), 10)
-        cases.add(f"{width} bits", {**layout.words, layout.entry_at: entry}, (PTCR, 1, gra))
+        words = {**layout.words, layout.entry_at: root(width, layout.tree.base(), 10)}
+        cases.add(f"{width} bits", words, (PTCR, 1, gra))
+        if width in (31, 51, 52, 53, 62):
+            cases.add(f"{width} bits, and an address beyond them", words, (PTCR, 1, 1 << width))
     cases.begin("partition: every size of a table")
     for size, (width, above) in itertools.product(range(32), [(31, ()), (31, (10,)), (52, (13,))]):
         if width == 52 and not 5 <= size <= 16:
@@ -253,7 +253,7 @@ def main():
     if "--count" in sys.argv[1:]:
         for loop, count in cases.counts.items():
             print(f"{count:5} {loop}")
-        print(f"{cases.number:5} in all; outcomes {dict(cases.outcomes)}")
+        print(f"{sum(cases.counts.values()):5} in all; outcomes {dict(cases.outcomes)}")
         return
     for name, lines in [("stdin", cases.asked), ("stdout", cases.printed)]:
         path, text = os.path.join(FOLDER, name), "\n".join(lines) + "\n"

@@ -12,6 +12,8 @@ pub enum Line {
     Word(u64, u64),
     /// `p PTCR LPID GRA`: a walk of a partition's tree.
     Partition(u64, u16, u64),
+    /// `f EA MSR LPIDR PIDR PTCR`: a walk of a fetch; with `l` of a load, with `s` of a store.
+    Asked(Ask),
 }
 
 /// The next word as a number.
@@ -22,6 +24,20 @@ fn number(words: &mut SplitWhitespace<'_>) -> Option<u64> {
 /// The next word as a partition's number.
 fn partition(words: &mut SplitWhitespace<'_>) -> Option<u16> {
     u16::try_from(number(words)?).ok()
+}
+
+/// The ask of an access, from the next words.
+fn ask_of(access: AccessKind, words: &mut SplitWhitespace<'_>) -> Option<Line> {
+    Some(Line::Asked(Ask {
+        access,
+        ea: number(words)?,
+        msr: number(words)?,
+        lpid: partition(words)?,
+        pid: u32::try_from(number(words)?).ok()?,
+        ptcr: number(words)?,
+        amr: 0,
+        iamr: 0,
+    }))
 }
 
 /// What a line says, or `None` where it is to be printed.
@@ -35,6 +51,9 @@ pub fn read_line(text: &str) -> Option<Line> {
             partition(&mut words)?,
             number(&mut words)?,
         )),
+        "f" => ask_of(AccessKind::Fetch, &mut words),
+        "l" => ask_of(AccessKind::Load, &mut words),
+        "s" => ask_of(AccessKind::Store, &mut words),
         _ => None,
     }
 }

@@ -3,19 +3,18 @@
 #![tactic(auto)]
 
 mod lines;
-mod places;
 mod shown;
-
-use lines::{Line, read_line};
-use places::journal_of_three_steps;
-use shown::show_partition;
-use journal_core::Journal;
-use real_store::{MOST_BYTES, Store};
-use std::alloc::Global;
-use std::io::{self, BufRead, BufReader};
+mod steps;
 
 ghost use Rattle.std.specs.Prelude.{◌≡◌, length};
 ghost use Rattle.journal_core.specs.Translating.{IsQuiet};
+
+use journal_core::Journal;
+use lines::{Line, read_line};
+use real_store::{MOST_BYTES, Store};
+use shown::{show_ask, show_partition};
+use steps::journal_of_three_steps;
+use std::io::{self, BufRead, BufReader};
 
 /// Does what a line says.
 fn follow(
@@ -37,7 +36,10 @@ fn follow(
             let _ = store.place(at, &value.to_be_bytes());
             Ok(())
         }
-        Some(Line::Partition(ptcr, lpid, gra)) => show_partition(rt, journal, store, ptcr, lpid, gra),
+        Some(Line::Partition(ptcr, lpid, gra)) => show_partition(
+            rt, journal, store, ptcr, lpid, gra,
+        ),
+        Some(Line::Asked(ask)) => show_ask(rt, journal, store, &ask),
     }
 }
 
