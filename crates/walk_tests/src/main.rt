@@ -13,8 +13,8 @@ use journal_core::Journal;
 use lines::{Line, read_line};
 use real_store::{MOST_BYTES, Store};
 use shown::{show_ask, show_partition};
-use steps::journal_of_three_steps;
 use std::io::{self, BufRead, BufReader};
+use steps::journal_of_three_steps;
 
 /// Does what a line says.
 fn follow(
