@@ -119,11 +119,10 @@ def partition_endings(cases):
         for (title, change), access in itertools.product(changes, ACCESSES):
             cases.add(f"{name}: {title}", layout.changed(change), ask_of(layout, access, msr, ea))
     deep = Nested(part=(52, (13, 9, 9, 9)))
-    accesses = itertools.cycle(ACCESSES)
-    for name, gra, places, msr, ea in goals_of(deep):
-        for level, word in [(3, 0), (4, directory(small, 5)), (4, 0)]:
+    for name, _, places, msr, ea in goals_of(deep):
+        for (level, word), access in itertools.product([(3, 0), (4, directory(small, 5)), (4, 0)], ACCESSES):
             title = f"{name}: " + (f"a directory at level {level}" if word else f"nothing at level {level} of 4")
-            cases.add(title, deep.changed({places[level - 1]: word}), ask_of(deep, next(accesses), msr, ea))
+            cases.add(title, deep.changed({places[level - 1]: word}), ask_of(deep, access, msr, ea))
 
 
 def whole_partition(cases):
