@@ -7,3 +7,6 @@ mod faults;
 pub use denials::{for_table, permit};
 pub use faults::{denial_bits, kind_bits, partition_fault, process_fault, segment_fault};
 pub use journal_core::{Denial, Rights, Scope};
+
+#[cfg(test)]
+mod tests;

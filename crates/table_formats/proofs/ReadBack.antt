@@ -1,9 +1,9 @@
 -- What is written for an entry is read as this entry.
-use Rattle.std.proofs.Common.{◌≡◌, ℕ, zero, suc, ◌+◌, ◌-◌, ◌*◌, ◌/◌, ◌%◌, ◌^◌, ◌<◌, ◌==◌, sym, ◌∙◌, ap, refl, arith, Bool, true, false}
+use Rattle.std.proofs.Common.{◌≡◌, ℕ, ◌%◌, ◌^◌, ◌<◌, refl, arith, Bool, true, false}
 use Rattle.ppc_bits.specs.Bits.{bit, is_set, field_of}
 use Rattle.table_formats.specs.declared.entries.Entry.{Entry}
 use Rattle.table_formats.specs.declared.entries.Entry.TheVariants.{Invalid, Directory, Leaf}
-use Rattle.table_formats.specs.Entries.{base_of, size_of, page_of, entry_of, word_of, flag, weight}
+use Rattle.table_formats.specs.Entries.{base_of, size_of, page_of, entry_of, word_of}
 use Rattle.table_formats.specs.Fitting.{Fits}
 
 as_directory : (w base size : ℕ) → field_of 64 w 0 0 ≡ 1 → bit 64 w 1 ≡ 0 → base_of w ≡ base → size_of w ≡ size → entry_of w ≡ Directory base size

@@ -1,7 +1,7 @@
 -- A doubleword is the sum of its fields, each with its weight.
-use Rattle.std.proofs.Common.{◌≡◌, ℕ, zero, suc, ◌+◌, ◌-◌, ◌*◌, ◌/◌, ◌%◌, ◌^◌, ◌<◌, ◌==◌, sym, ◌∙◌, ap, refl, arith, Bool, true, false}
+use Rattle.std.proofs.Common.{◌≡◌, ℕ, zero, suc, ◌+◌, ◌*◌, ◌/◌, ◌%◌, ◌^◌, ◌<◌, ◌==◌, sym, ◌∙◌, ap, arith}
 use Rattle.std.proofs.lemmas.Nat.{shr_split, shr-shr}
-use Rattle.ppc_bits.specs.Bits.{bit, is_set, field_of}
+use Rattle.ppc_bits.specs.Bits.{bit, is_set}
 use Rattle.table_formats.specs.Entries.{flag, weight}
 
 -- the bits above the lowest k are the m lowest of them and the rest

@@ -1,8 +1,8 @@
 -- What is written for what is read is the word with the bits that no field names cleared.
-use Rattle.std.proofs.Common.{◌≡◌, ℕ, zero, suc, ◌+◌, ◌-◌, ◌*◌, ◌/◌, ◌%◌, ◌^◌, ◌<◌, ◌==◌, sym, ◌∙◌, ap, refl, arith, Bool, true, false, cond}
-use Rattle.ppc_bits.specs.Bits.{bit, is_set, field_of}
-use Rattle.table_formats.specs.declared.entries.Entry.TheVariants.{Invalid, Directory, Leaf}
-use Rattle.table_formats.specs.Entries.{base_of, size_of, leaf_of, page_of, entry_of, word_of, named, worth, flag, weight}
+use Rattle.std.proofs.Common.{◌≡◌, ℕ, zero, suc, ◌+◌, ◌-◌, ◌^◌, ◌<◌, refl, arith}
+use Rattle.ppc_bits.specs.Bits.{bit, field_of}
+use Rattle.table_formats.specs.declared.entries.Entry.TheVariants.{Directory}
+use Rattle.table_formats.specs.Entries.{base_of, size_of, leaf_of, entry_of, word_of, named, worth}
 use Rattle.table_formats.proofs.Splits.{split, flag_is}
 
 directory_back : (w : ℕ) → w < 2 ^ 64 → field_of 64 w 0 0 ≡ 1 → bit 64 w 1 ≡ 0 → word_of (Directory (base_of w) (size_of w)) ≡ w - (worth w 2 3 + worth w 56 58)
