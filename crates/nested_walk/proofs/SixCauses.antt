@@ -26,7 +26,7 @@ use Rattle.journal_core.specs.declared.walks.PartStage.TheVariants.{Entry, Tree,
 use Rattle.journal_core.specs.declared.walks.Stage.{Stage}
 use Rattle.journal_core.specs.declared.walks.Stage.TheVariants.{SecondWord, PartEntry, PartTable, ProcessEntry, ProcessTable, Over}
 use Rattle.journal_core.specs.Asks.{bits, is_fetch}
-use Rattle.journal_core.specs.Faults.{kind_bits, denial_bits, process_fault, partition_fault, segment_fault}
+use Rattle.journal_core.specs.Faults.{fault_bit, kind_bits, denial_bits, process_fault, partition_fault, segment_fault}
 use Rattle.journal_core.specs.Places.{place_of}
 use Rattle.journal_core.specs.PartitionWalk.{at_node, part_start, after_entry, after_tree, root_bits, node_of, has_entry, real_in, entry_at}
 use Rattle.journal_core.specs.Walk.{Task, table_bits, inside, granted, arrived, enter, at_table, at_result, process_granted, in_process, after_second, after_process_entry, next, stage_after, process_start, start_at, task_at, partition_rights, process_rights, access_for}
@@ -74,56 +74,29 @@ kind_is_inner Unsupported (ForTable n) = refl
 kind_is_inner Unsupported ForResult = refl
 kind_is_inner Unsupported ForGuest = refl
 
+denial_alone : (d : Denial) → is_among partition_bits (denial_bits d + 0) ≡ true
+denial_alone Privilege = refl
+denial_alone Read = refl
+denial_alone Write = refl
+denial_alone Execute = refl
+denial_alone Guarded = refl
+denial_alone Referenced = refl
+denial_alone Changed = refl
+
+denial_for_table : (d : Denial) → is_among partition_bits (denial_bits d + fault_bit 46) ≡ true
+denial_for_table Privilege = refl
+denial_for_table Read = refl
+denial_for_table Write = refl
+denial_for_table Execute = refl
+denial_for_table Guarded = refl
+denial_for_table Referenced = refl
+denial_for_table Changed = refl
+
 denial_is_inner : (d : Denial) (goal : Goal) → is_among partition_bits (denial_bits d + table_bits goal) ≡ true
-denial_is_inner Privilege goal = kinds goal
-  where
-    kinds : (goal : Goal) → is_among partition_bits (denial_bits Privilege + table_bits goal) ≡ true
-    kinds ForEntry = refl
-    kinds (ForTable n) = refl
-    kinds ForResult = refl
-    kinds ForGuest = refl
-denial_is_inner Read goal = kinds goal
-  where
-    kinds : (goal : Goal) → is_among partition_bits (denial_bits Read + table_bits goal) ≡ true
-    kinds ForEntry = refl
-    kinds (ForTable n) = refl
-    kinds ForResult = refl
-    kinds ForGuest = refl
-denial_is_inner Write goal = kinds goal
-  where
-    kinds : (goal : Goal) → is_among partition_bits (denial_bits Write + table_bits goal) ≡ true
-    kinds ForEntry = refl
-    kinds (ForTable n) = refl
-    kinds ForResult = refl
-    kinds ForGuest = refl
-denial_is_inner Execute goal = kinds goal
-  where
-    kinds : (goal : Goal) → is_among partition_bits (denial_bits Execute + table_bits goal) ≡ true
-    kinds ForEntry = refl
-    kinds (ForTable n) = refl
-    kinds ForResult = refl
-    kinds ForGuest = refl
-denial_is_inner Guarded goal = kinds goal
-  where
-    kinds : (goal : Goal) → is_among partition_bits (denial_bits Guarded + table_bits goal) ≡ true
-    kinds ForEntry = refl
-    kinds (ForTable n) = refl
-    kinds ForResult = refl
-    kinds ForGuest = refl
-denial_is_inner Referenced goal = kinds goal
-  where
-    kinds : (goal : Goal) → is_among partition_bits (denial_bits Referenced + table_bits goal) ≡ true
-    kinds ForEntry = refl
-    kinds (ForTable n) = refl
-    kinds ForResult = refl
-    kinds ForGuest = refl
-denial_is_inner Changed goal = kinds goal
-  where
-    kinds : (goal : Goal) → is_among partition_bits (denial_bits Changed + table_bits goal) ≡ true
-    kinds ForEntry = refl
-    kinds (ForTable n) = refl
-    kinds ForResult = refl
-    kinds ForGuest = refl
+denial_is_inner d ForEntry = denial_for_table d
+denial_is_inner d (ForTable n) = denial_for_table d
+denial_is_inner d ForResult = denial_alone d
+denial_is_inner d ForGuest = denial_alone d
 
 -- ---- the interrupts
 

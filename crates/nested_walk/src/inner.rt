@@ -1,4 +1,4 @@
-//! Partition's walks inside the walk of an ask (Power ISA, Book III, 5.7.12).
+//! Partition's walks inside the walk of an ask (Power ISA, Book III, 5.7).
 
 ghost use Rattle.std.specs.Prelude.{◌≡◌, ◌^◌, ◌<◌, MatchResult, Option};
 ghost use Rattle.journal_core.specs.Rights.{first_denial};

@@ -1,4 +1,4 @@
-//! The walk of an ask (Power ISA, Book III, 5.7.13), which begins with what is kept and reads the rest now. It reads at most 36
+//! The walk of an ask (Power ISA, Book III, 5.7), which begins with what is kept and reads the rest now. It reads at most 36
 //! words, whatever they are, and ends in a page, in one of six interrupts with its bits, or in a stop.
 #![tactic(auto)]
 

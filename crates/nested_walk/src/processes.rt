@@ -1,4 +1,4 @@
-//! The walk of a process's tree (Power ISA, Book III, 5.7.10).
+//! The walk of a process's tree (Power ISA, Book III, 5.7).
 
 ghost use Rattle.std.specs.Prelude.{◌≡◌, ◌^◌, ◌<◌};
 ghost use Rattle.journal_core.specs.Rights.{first_denial};
@@ -92,7 +92,7 @@ pub fn in_process(target: &Target, stage: PartStage) -> Stage
 }
 
 /// After the second doubleword of the partition's entry, which has the place and the size of the process table (Power ISA, Book
-/// III, 5.7.6): the process's entry stands at a guest real address, also for partition 0.
+/// III, 5.7): the process's entry stands at a guest real address, also for partition 0.
 #[tactic(auto, unfolding(journal_core::specs::Walk::after_second))]
 pub fn after_second(target: &Target, value: u64) -> Stage
     ensures stage { result ≡ after_second (task_for target.now) value }

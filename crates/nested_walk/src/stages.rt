@@ -38,7 +38,7 @@ pub fn next(target: &Target, stage: Stage, value: u64) -> Stage
 }
 
 /// Where the walk of a process's address begins: at the second doubleword of the partition's entry, if there is one (Power ISA,
-/// Book III, 5.7.6).
+/// Book III, 5.7).
 #[tactic(auto, unfolding(journal_core::specs::Walk::process_start))]
 fn process_start(target: &Target) -> Stage
     ensures stage { result ≡ process_start (task_for target.now) }

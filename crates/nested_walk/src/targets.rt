@@ -52,7 +52,7 @@ fn place_in(ask: &Ask, space: Option<Space>) -> Place
     }
 }
 
-/// Where an ask points (Power ISA, Book III, 5.7.2 and 5.7.3).
+/// Where an ask points (Power ISA, Book III, 5.7).
 ///
 /// With relocation it is the quadrant that decides; else it is a real address, or in a guest a guest real one, without the four
 /// highest bits of the effective address.

@@ -268,7 +268,7 @@ fn walk_on<R: TableReader, C: Kept>(
     }
 }
 
-/// The walk of an ask (Power ISA, Book III, 5.7.13), which begins with what is kept and takes it wherever the walk of a
+/// The walk of an ask (Power ISA, Book III, 5.7), which begins with what is kept and takes it wherever the walk of a
 /// partition's tree begins.
 ///
 /// The trail gets its readings, at most 36: those that `kept` answers, and those that it makes now. Its outcome is the page's

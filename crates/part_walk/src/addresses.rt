@@ -7,7 +7,7 @@ ghost use Rattle.part_walk.specs.Ranges.{IsTable};
 use journal_core::Node;
 
 /// Where a table's entry for an address stands: base and eight times the index are added, whatever the base is a multiple of
-/// (Power ISA, Book III, 5.7.11).
+/// (Power ISA, Book III, 5.7).
 pub fn entry_address(address: u64, node: Node) -> u64
     requires { IsTable node }
     ensures value { result ≡ entry_at address node }

@@ -44,14 +44,18 @@ pub fn begin_tree(root: Root) -> PartStage
     })
 }
 
-/// The place of a partition's entry, if the partition table has one (Power ISA, Book III, 5.7.6).
+/// The place of a partition's entry, if the partition table has one (Power ISA, Book III, 5.7).
 pub fn partition_entry(ptcr: u64, lpid: u16) -> Option<u64>
     ensures value { result ≡ partition_place ptcr lpid }
     ensures small { IfSome result (λ at. at < 2 ^ 61) }
 {
     let (base, size) = Ptcr::table(ptcr);
     let offset = 16 * u64::from(lpid);
-    if offset < (1 << (12 + size)) { Some(base + offset) } else { None }
+    if offset < (1 << (12 + size)) {
+        Some(base + offset)
+    } else {
+        None
+    }
 }
 
 /// Where a walk begins: at the partition's entry, if there is one.
@@ -129,7 +133,7 @@ fn after_tree_entry(rest: u8, level: u8, entry: Entry) -> PartStage
     }
 }
 
-/// After the word of a tree's entry at this level that leaves so many bits (Power ISA, Book III, 5.7.11).
+/// After the word of a tree's entry at this level that leaves so many bits (Power ISA, Book III, 5.7).
 ///
 /// A leaf gives a page of 4 KiB, 64 KiB, 2 MiB or 1 GiB; a directory at level 4 names no table.
 pub fn after_tree(rest: u8, level: u8, value: u64) -> PartStage

@@ -188,7 +188,7 @@ fn walk_from<R: TableReader>(
     }
 }
 
-/// The walk of a guest real address in a partition's tree, which begins with what is kept (Power ISA, Book III, 5.7.12).
+/// The walk of a guest real address in a partition's tree, which begins with what is kept (Power ISA, Book III, 5.7).
 ///
 /// It adds at most five items to the trail: the readings that `kept` answers for the address, and those that it makes now. Its
 /// outcome is a leaf, a fault or a stop: `HashedPartition` with the partition, or `NoStorage` with the place of a word that is
