@@ -1,15 +1,11 @@
-//! Translation for asks that are real addresses.
-
-ghost use Rattle.std.specs.Prelude.{◌≡◌};
-ghost use Rattle.journal_core.specs.Places.{place_of};
-ghost use Rattle.translator.specs.Choices.{answer_at};
+//! Translation by fresh walks.
 
 use journal_core::{
     AccessKind, Ask, DoneRow, Found, Journal, StopName, TableReader, Translate, Use,
 };
 use ppc_spr::Msr;
 
-/// Answers asks that are real addresses, of every thread, and stops at any other. It keeps nothing and reads no table.
+/// Answers each ask of every thread by a fresh walk. It keeps nothing.
 #[derive(Clone, Copy, Debug)]
 pub struct Plain;
 
@@ -18,35 +14,17 @@ impl Plain {
     pub fn new() -> Plain {
         Plain
     }
-
-    /// The answer for an ask. In hypervisor state without relocation the effective address without its four highest bits is the
-    /// real address (Power ISA, Book III, 5.7.3); any other ask is the stop `NoTranslation` with 0.
-    #[tactic(auto, unfolding(journal_core::specs::Places::place_of))]
-    pub fn answer(&self, ask: &Ask) -> Found
-        ensures { result ≡ answer_at (place_of ask.now) }
-    {
-        let msr = Msr(ask.msr);
-        let relocates = match ask.access {
-            AccessKind::Fetch => msr.relocates_fetches(),
-            AccessKind::Load | AccessKind::Store => msr.relocates_data(),
-        };
-        if relocates || !msr.is_hypervisor() {
-            Found::Stop(StopName::NoTranslation, 0)
-        } else {
-            let at = ask.ea % (1 << 60);
-            Found::Real(at, Use::Real(at))
-        }
-    }
 }
 
 impl Translate for Plain {
-    ghost use Rattle.translator.specs.Choices.{RealChoice};
+    ghost use Rattle.journal_core.specs.Choice.{PlainChoice};
+    ghost use Rattle.walk_laws.proofs.ChoiceStays.{plain_choice_goes_on};
 
     ghost has_thread = { λ s t. Unit {0} };
 
     ghost fits = { λ s j values. Unit {0} };
 
-    ghost chooses = { RealChoice };
+    ghost chooses = { PlainChoice };
 
     fn translate<R: TableReader>(
         &mut self,
@@ -56,14 +34,24 @@ impl Translate for Plain {
         ask: &Ask,
         _moment: u32,
     ) -> Found {
-        self.answer(ask)
+        let msr = Msr(ask.msr);
+        let relocates = match ask.access {
+            AccessKind::Fetch => msr.relocates_fetches(),
+            AccessKind::Load | AccessKind::Store => msr.relocates_data(),
+        };
+        if relocates || !msr.is_hypervisor() {
+            Found::Stop(StopName::HashedPartition, 0)
+        } else {
+            let at = ask.ea % (1 << 60);
+            Found::Real(at, Use::Real(at))
+        }
     }
 
     fn complete(&mut self, _journal: &Journal, _row: &DoneRow) {}
 
     ghost stays = { λ s j k values same fits. tt };
 
-    ghost chosen_stays = { λ q new found after on within named chosen. record { is = chosen.is; same = chosen.same } };
+    ghost chosen_stays = { plain_choice_goes_on };
 
     ghost any_values = { λ s j values new same fits. tt };
 }
