@@ -68,6 +68,13 @@ impl Trail {
         self.items.as_slice().get(i as usize).copied()
     }
 
+    /// All of them, in order.
+    pub fn items(&self) -> &[TrailItem]
+        ensures { result.now ≡ self.now }
+    {
+        self.items.as_slice()
+    }
+
     /// How many there are.
     pub fn count(&self) -> u8
         ensures value { result ≡ length self.now }

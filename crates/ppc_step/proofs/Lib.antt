@@ -11,4 +11,3 @@ pub mod RowsLemmas
 pub mod StateLemmas
 pub mod StepLemmas
 pub mod ThreadsLemmas
-pub mod ExamplesLemmas

@@ -16,7 +16,6 @@ use Rattle.journal_core.specs.Steps.{StepRows}
 use Rattle.journal_core.specs.Past.{ram_after}
 use Rattle.journal_core.specs.Turns.{Mark, Query, query_of, Turn}
 use Rattle.journal_core.specs.Choice.{ByKind, IsFault, IsStop}
-use Rattle.journal_core.specs.Early.{IsUntranslated}
 use Rattle.journal_core.specs.Answers.{IsHit, IsWalked, IsAnswer, AreAnswered, uses_of}
 use Rattle.form_outcomes.specs.Outcomes.{Outcome, Goes, Takes, Stops}
 use Rattle.ppc_bus.specs.Windows.{Window}
@@ -61,7 +60,7 @@ all_answered answers before after (ask ∷ asks) (found ∷ founds) h = omega (a
 -- ---- what the uses show
 
 -- an answer that keeps the rule is shown by its use
-one_shows : (q : Query) (rs : List ReadRow) (found : Found) (after : Mark) → ByKind q (IsHit q rs) (IsWalked q rs) (IsFault q) (λ name value to. IsStop q name value to ⊎ IsUntranslated q name value to) found after → Shows found
+one_shows : (q : Query) (rs : List ReadRow) (found : Found) (after : Mark) → ByKind q (IsHit q rs) (IsWalked q rs) (IsFault q) (IsStop q) found after → Shows found
 one_shows q rs (Real a (RealUse b)) after h = ap (λ x. Real x (RealUse b) ∷ []) h.1
 one_shows q rs (Real a (Hit i b)) after h = ap (λ x. Real x (Hit i b) ∷ []) h.1
 one_shows q rs (Real a (Walked i b)) after h = ap (λ x. Real x (Walked i b) ∷ []) h.1

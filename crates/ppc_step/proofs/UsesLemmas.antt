@@ -12,7 +12,6 @@ use Rattle.journal_core.specs.Steps.{StepRows, IsDated, IsOwn, with_own}
 use Rattle.journal_core.specs.Standing.{AreNamed}
 use Rattle.journal_core.specs.Turns.{Mark, Query, query_of, turn_of, turn_in, mark_of}
 use Rattle.journal_core.specs.Choice.{IsFault, IsStop}
-use Rattle.journal_core.specs.Early.{IsUntranslated}
 use Rattle.journal_core.specs.Answers.{IsHit, IsWalked, IsAnswer, AreAnswered, uses_of, mark_at, AnswersUses, KeepsUses, ChoosesUses}
 use Rattle.journal_core.specs.Translating.{GoesOn, IsWithin, Stays}
 use Rattle.walk_laws.proofs.AnswersStay.{by_kind_on, answer_goes_on, answered_goes_on}
@@ -51,9 +50,8 @@ fault_under q floor cause first count after h = record {
   adds = record { first_is = h.adds.first_is; count_is = h.adds.count_is; reads_to = h.adds.reads_to; fills_to = h.adds.fills_to; reads = h.adds.reads };
 }
 
-stop_under : (q : Query) (floor : ℕ) (name : StopName) (value : ℕ) (after : Mark) → IsStop q name value after ⊎ IsUntranslated q name value after → IsStop (with_floor q floor) name value after ⊎ IsUntranslated (with_floor q floor) name value after
-stop_under q floor name value after s =
-    elim s [ inl stop ↦ inl (record { readings = stop.readings; fresh = stop.fresh; same = stop.same }) | inr untranslated ↦ inr (record { named = untranslated.named; nothing = untranslated.nothing; same = untranslated.same }) ]
+stop_under : (q : Query) (floor : ℕ) (name : StopName) (value : ℕ) (after : Mark) → IsStop q name value after → IsStop (with_floor q floor) name value after
+stop_under q floor name value after s = record { readings = s.readings; fresh = s.fresh; same = s.same }
 
 any_floor : (past : ℕ → ℕ → Option ℕ) (q : Query) (floor : ℕ) (found : Found) (after : Mark) → IsAnswer past q found after → IsAnswer past (with_floor q floor) found after
 any_floor past q floor found after h = record {
@@ -61,7 +59,7 @@ any_floor past q floor found after h = record {
   named = h.named;
   read = h.read;
   current = h.current;
-  walk = by_kind_on q (with_floor q floor) (IsHit q h.readings) (IsWalked q h.readings) (IsHit (with_floor q floor) h.readings) (IsWalked (with_floor q floor) h.readings) (IsFault q) (IsFault (with_floor q floor)) (λ name value to. IsStop q name value to ⊎ IsUntranslated q name value to) (λ name value to. IsStop (with_floor q floor) name value to ⊎ IsUntranslated (with_floor q floor) name value to) found after refl refl
+  walk = by_kind_on q (with_floor q floor) (IsHit q h.readings) (IsWalked q h.readings) (IsHit (with_floor q floor) h.readings) (IsWalked (with_floor q floor) h.readings) (IsFault q) (IsFault (with_floor q floor)) (IsStop q) (IsStop (with_floor q floor)) found after refl refl
       (λ i real. hit_under q floor h.readings i real after)
       (λ i real. walked_under q floor h.readings i real after)
       (λ cause first count. fault_under q floor cause first count after)

@@ -8,4 +8,3 @@ pub mod States
 pub mod Performing
 pub mod Rule
 pub mod Soundness
-pub mod Examples

@@ -3,4 +3,3 @@
 mod bench;
 mod privilege;
 mod rows;
-mod straight;

@@ -15,7 +15,6 @@ use Rattle.journal_core.specs.Fills.{new_rows}
 use Rattle.journal_core.specs.Rights.{first_denial}
 use Rattle.journal_core.specs.Walk.{never_denied}
 use Rattle.journal_core.specs.Choice.{SameMark, IsFault, IsStop}
-use Rattle.journal_core.specs.Early.{IsUntranslated}
 use Rattle.journal_core.specs.Answers.{AreItems, IsHit, IsWalked, IsAnswer, AreAnswered}
 use Rattle.walk_laws.proofs.WalkBounds.{walk-few}
 
@@ -58,9 +57,8 @@ few_fault q cause first count after f =
     let short : length f.readings ≤ 36 = walk-few (first_denial q.ask) q.ask f.readings f.fresh.walk.follows in
     record { reads = omega (arith, short, f.adds.count_is, f.adds.reads_to); fills = omega (arith, f.adds.fills_to) }
 
-few_stop : (q : Query) (name : _) (value : ℕ) (after : Mark) → IsStop q name value after ⊎ IsUntranslated q name value after → IsFew 1 q.before after
-few_stop q name value after (inl s) = few_same q.before after s.same
-few_stop q name value after (inr s) = few_same q.before after s.same
+few_stop : (q : Query) (name : _) (value : ℕ) (after : Mark) → IsStop q name value after → IsFew 1 q.before after
+few_stop q name value after s = few_same q.before after s.same
 
 few_answer : (past : ℕ → ℕ → Option ℕ) (q : Query) (found : Found) (after : Mark) → IsAnswer past q found after → IsFew 1 q.before after
 few_answer past q (Real a (RealUse b)) after is = few_same q.before after is.walk.2

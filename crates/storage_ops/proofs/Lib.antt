@@ -3,4 +3,3 @@ pub mod MovingLemmas
 pub mod StoringLemmas
 pub mod MovesLemmas
 pub mod AccessesLemmas
-pub mod ExamplesLemmas

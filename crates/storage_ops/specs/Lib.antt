@@ -7,4 +7,3 @@ pub mod Answering
 pub mod Checks
 pub mod Effects
 pub mod Accesses
-pub mod Examples

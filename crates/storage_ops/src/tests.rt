@@ -4,5 +4,4 @@ mod all_forms;
 mod bench;
 mod devices;
 mod refusals;
-mod straight;
 mod two_pages;

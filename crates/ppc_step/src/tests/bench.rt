@@ -1,6 +1,5 @@
 //! Threads, RAM and a device, and one step over them.
 
-use super::straight::Straight;
 use crate::{Parts, Stepped, step};
 use bench_devices::Control;
 use journal_core::{Journal, StepRow};
@@ -9,6 +8,7 @@ use real_store::Store;
 use std::alloc::Global;
 use std::test::Fail;
 use thread_regs::{Thread, Threads};
+use translator::Plain;
 
 /// The address of the instruction.
 pub const HERE: u64 = 0x1_0000;
@@ -16,7 +16,7 @@ pub const HERE: u64 = 0x1_0000;
 /// The parts of a step, and how it ended.
 #[derive(Drop)]
 pub struct Left {
-    pub parts: Parts<Straight, Bus>,
+    pub parts: Parts<Plain, Bus>,
     pub end: Stepped,
 }
 
@@ -42,7 +42,7 @@ pub fn step_over(alloc: Global, threads: Threads, number: u8, store: Store) -> R
         store,
         bus,
         journal,
-        translator: Straight,
+        translator: Plain::new(),
     };
     let end = step(&mut parts, number);
     Ok(Left { parts, end })

@@ -1,7 +1,6 @@
 //! Which states may use which forms.
 
 use super::bench::HERE;
-use super::straight::Straight;
 use crate::words::execute_word;
 use journal_core::{Cause, Journal, StepEnd, StopName};
 use ppc_bus::Bus;
@@ -10,6 +9,7 @@ use real_store::Store;
 use std::alloc::Global;
 use std::test::Fail;
 use thread_regs::Thread;
+use translator::Plain;
 
 /// Hypervisor state without relocation.
 const HYPERVISOR: u64 = 0x9000_0000_0000_1001;
@@ -30,7 +30,7 @@ fn end_in(alloc: Global, msr: u64, word: u32) -> Result<StepEnd, Fail> {
         word,
         &mut thread,
         0,
-        &mut Straight,
+        &mut Plain::new(),
         &mut store,
         &mut bus,
         &mut journal,

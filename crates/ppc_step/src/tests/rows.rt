@@ -27,18 +27,18 @@ fn a_fetch_without_a_word_stops_and_shows_what_answered_it(rt: HostRuntime) -> R
             0x1000_0000,
             Use::Real(0x1000_0000),
         ),
-        // with relocation, and in a guest
+        // with relocation, and in a guest: the first doubleword of partition 0's entry is 0
         (
             0x9000_0000_0000_1021,
             HERE,
-            StopName::NoTranslation,
+            StopName::HashedPartition,
             0,
             Use::Unused,
         ),
         (
             0x8000_0000_0000_1001,
             HERE,
-            StopName::NoTranslation,
+            StopName::HashedPartition,
             0,
             Use::Unused,
         ),

@@ -4,7 +4,6 @@ ghost use Rattle.std.specs.Prelude.{◌≡◌, IfSome};
 ghost use Rattle.ppc_ops.specs.Forms.{IsForm};
 ghost use Rattle.storage_ops.specs.Deeds as deeds;
 
-use super::straight::Straight;
 use crate::{StorageOut, access, access_form};
 use bench_devices::{Console, Control, Tape};
 use journal_core::{Journal, Signal};
@@ -14,6 +13,7 @@ use real_store::Store;
 use std::alloc::Global;
 use std::test::Fail;
 use thread_regs::Thread;
+use translator::Plain;
 use word_decoder::{Decoded, decode};
 
 /// The number of the thread.
@@ -84,7 +84,7 @@ impl Bench {
             &insn,
             &mut self.thread,
             NUMBER,
-            &mut Straight,
+            &mut Plain::new(),
             &mut self.store,
             &mut self.bus,
             &mut journal,

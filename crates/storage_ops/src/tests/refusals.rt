@@ -129,7 +129,8 @@ fn only_what_asks_is_stopped_by_a_translator(rt: HostRuntime) -> Result<(), Fail
     bench.thread.set_msr(Msr(0x9000_0000_0000_1011));
     bench.thread.set_gpr(4, 0x2_0000);
     bench.thread.set_gpr(5, 5);
-    let stop = StepEnd::Stopped(StopName::NoTranslation, 0);
+    // The first doubleword of the partition's entry is 0.
+    let stop = StepEnd::Stopped(StopName::HashedPartition, 0);
     // lbz r5,0(r4), dcbf 0,r4 and dcbt 0,r4
     let cases = [
         (0x88a4_0000, stop),
