@@ -1,7 +1,8 @@
 -- What a fresh walk answers is what a machine that keeps nothing chooses, and only rows of a walk are added.
 use Rattle.std.proofs.Common.{◌≡◌, ℕ, zero, suc, ◌+◌, ◌-◌, ◌<◌, ◌≤◌, List, [], ◌∷◌, ◌++◌, length, map, take, drop, Option, Some, None, arith, ap, sym, ◌∙◌, refl, subst, length-append}
 use Rattle.std.specs.List.{AllByRecursion}
-use Rattle.std.proofs.lemmas.List.{append-nil}
+use Rattle.std.proofs.lemmas.List.{append-nil, length-map}
+use Rattle.std.proofs.Math.Path.{fun_ext}
 use Rattle.journal_core.specs.declared.rows.StopName.{StopName}
 use Rattle.journal_core.specs.declared.causes.Cause.{Cause}
 use Rattle.journal_core.specs.declared.rows.Use.TheVariants.{Unused, Real as RealUse, Hit, Walked, Faulted}
@@ -13,6 +14,8 @@ use Rattle.journal_core.specs.declared.asks.Found.{Found}
 use Rattle.journal_core.specs.declared.asks.Found.TheVariants.{Real, Fault, Stop}
 use Rattle.journal_core.specs.declared.walks.NestResult.{NestResult}
 use Rattle.journal_core.specs.declared.walks.NestResult.TheVariants.{Page, Fault as WalkFault, Stop as WalkStop}
+use Rattle.journal_core.specs.declared.asks.Place.{Place}
+use Rattle.journal_core.specs.declared.walks.TrailItem.{TrailItem}
 use Rattle.journal_core.specs.declared.walks.TrailItem.TheVariants.{New}
 use Rattle.journal_core.specs.Rows.{JournalView}
 use Rattle.journal_core.specs.Turns.{query_of, turn_in, mark_of}
@@ -23,7 +26,8 @@ use Rattle.journal_core.specs.Fills.{own_key, fills_of, new_rows, OldsBelow}
 use Rattle.journal_core.specs.Admitted.{IsWalkTo}
 use Rattle.journal_core.specs.Choice.{IsTranslated, AddsOwn, IsFault, IsStop, PlainChoice, added, last_of}
 use Rattle.journal_core.specs.Translating.{OnlyAdds}
-use Rattle.walk_laws.proofs.FreshFacts.{fresh_few, fresh_moments, fresh_walk}
+use Rattle.walk_laws.proofs.FreshFacts.{fresh_few, fresh_moments, fresh_walk, has_own_key}
+use Rattle.nested_walk.specs.Adds.{IsFreshTrail}
 use Rattle.walk_rows.specs.Added.{with_reads, with_fill}
 use Rattle.walk_rows.specs.OwnFill.{own_row}
 use Rattle.walk_rows.specs.FreshAnswers.{AddsPage, AddsFault, AddsNone, AnswersFresh}
@@ -138,3 +142,60 @@ adds_rows word j k t n ask (Fault cause (RealUse b)) now h = absurd h
 adds_rows word j k t n ask (Fault cause (Hit i b)) now h = absurd h
 adds_rows word j k t n ask (Fault cause (Walked i b)) now h = absurd h
 adds_rows word j k t n ask (Stop name value) now h = adds_by j k [] [] (h.adds ∙ (no_reads j ∙ no_fills j [])) (omega arith) (omega arith) tt tt
+
+-- ---- the readings of a fresh walk, as a trail has them
+
+rows_are : (word : ℕ → Option ℕ) (n : ℕ) (ask : Ask) (items : List TrailItem) (out : NestResult) (h : IsFreshTrail word n ask items out) → new_rows items ≡ h.rs
+rows_are word n ask items out h = ap new_rows h.items_are ∙ new_rows_of h.rs
+
+pub trail_olds : (word : ℕ → Option ℕ) (n m : ℕ) (ask : Ask) (items : List TrailItem) (out : NestResult) → IsFreshTrail word n ask items out → OldsBelow m items
+trail_olds word n m ask items out h = subst (OldsBelow m) (sym h.items_are) (olds_of m h.rs)
+
+pub trail_moments : (word : ℕ → Option ℕ) (j : JournalView) (n : ℕ) (ask : Ask) (items : List TrailItem) (out : NestResult) → n ≡ length j.rows.steps → IsFreshTrail word n ask items out → AllByRecursion (λ (r : ReadRow). r.moment ≡ length j.rows.steps) (new_rows items)
+trail_moments word j n ask items out now h = subst (AllByRecursion (λ (r : ReadRow). r.moment ≡ length j.rows.steps)) (sym (rows_are word n ask items out h)) (moments word j n ask h.rs out now h.fresh)
+
+-- the ask of a walk to a page has a key
+pub trail_key : (word : ℕ → Option ℕ) (n : ℕ) (ask : Ask) (p : Place) (items : List TrailItem) (real : ℕ) → IsTranslated ask → p ≡ place_of ask → IsFreshTrail word n ask items (Page real) → (key : Key) × (own_key p ≡ Some key)
+trail_key word n ask p items real away is h = subst (λ q. (key : Key) × (own_key q ≡ Some key)) (sym is) (has_own_key ask h.rs real away (fresh_walk word n ask h.rs real h.fresh))
+
+-- the rows of a page are its readings and the fill
+pub page_is : (word : ℕ → Option ℕ) (j mid k : JournalView) (t n : ℕ) (ask : Ask) (p : Place) (items : List TrailItem) (real i first : ℕ) → IsTranslated ask → p ≡ place_of ask → IsFreshTrail word n ask items (Page real) → mid ≡ with_reads j (new_rows items) →
+    first ≡ length j.rows.reads → i ≡ length mid.rows.fills → ((key : Key) → own_key p ≡ Some key → k ≡ with_fill mid (own_row t n key p mid.rows.reads first items)) → AnswersFresh word j k t n ask (Real real (Walked i real))
+page_is word j mid k t n ask p items real i first away is h mid_is first_is number adds =
+    let key : (key : Key) × (own_key (place_of ask) ≡ Some key) = has_own_key ask h.rs real away (fresh_walk word n ask h.rs real h.fresh) in
+    let reads : mid ≡ with_reads j h.rs = mid_is ∙ ap (with_reads j) (rows_are word n ask items (Page real) h) in
+    let rows : List ReadRow = j.rows.reads ++ h.rs in
+    (
+      refl,
+      record {
+        rs = h.rs;
+        fresh = h.fresh;
+        key = key.0;
+        key_is = key.1;
+        number = number ∙ ap (λ (x : JournalView). length x.rows.fills) reads;
+        adds = adds key.0 (ap own_key is ∙ key.1)
+            ∙ (ap (λ (x : JournalView). with_fill x (own_row t n key.0 p x.rows.reads first items)) reads
+            ∙ (ap (λ m. with_fill (with_reads j h.rs) (own_row t n key.0 p rows m items)) first_is
+            ∙ (ap (λ xs. with_fill (with_reads j h.rs) (own_row t n key.0 p rows (length j.rows.reads) xs)) h.items_are
+            ∙ ap (λ q. with_fill (with_reads j h.rs) (own_row t n key.0 q rows (length j.rows.reads) (map New h.rs))) is)));
+      },
+    )
+
+-- those of a fault its readings alone
+pub fault_is : (word : ℕ → Option ℕ) (j k : JournalView) (t n : ℕ) (ask : Ask) (items : List TrailItem) (cause : Cause) (first count : ℕ) → IsFreshTrail word n ask items (WalkFault cause) → k ≡ with_reads j (new_rows items) → first ≡ length j.rows.reads → count ≡ length items →
+    AnswersFresh word j k t n ask (Fault cause (Faulted first count))
+fault_is word j k t n ask items cause first count h adds first_is count_is = record {
+  rs = h.rs;
+  fresh = h.fresh;
+  first_is = first_is;
+  count_is = count_is ∙ (ap length h.items_are ∙ length-map h.rs New);
+  adds = adds ∙ ap (with_reads j) (rows_are word n ask items (WalkFault cause) h);
+}
+
+-- and a stop has none
+pub stop_is : (word : ℕ → Option ℕ) (j : JournalView) (t n : ℕ) (ask : Ask) (items : List TrailItem) (name : StopName) (value : ℕ) → IsFreshTrail word n ask items (WalkStop name value) → AnswersFresh word j j t n ask (Stop name value)
+stop_is word j t n ask items name value h = record { rs = h.rs; fresh = h.fresh; adds = refl }
+
+-- over any words that are those of storage
+pub chooses_by : (stored word : ℕ → Option ℕ) (j k : JournalView) (t n : ℕ) (ask : Ask) (found : Found) → IsTranslated ask → ((at : ℕ) → word at ≡ stored at) → AnswersFresh stored j k t n ask found → PlainChoice (query_of (turn_in k t n) word (mark_of j.rows) ask) found (mark_of k.rows)
+chooses_by stored word j k t n ask found away same h = subst (λ w. PlainChoice (query_of (turn_in k t n) w (mark_of j.rows) ask) found (mark_of k.rows)) (sym (fun_ext same)) (chooses_plain stored j k t n ask found away h)
