@@ -221,16 +221,36 @@ class Drawer:
     def defined_quotient(self, word, name):
         field = self.source.randrange(1, 8)
         target, values = word.values["rt"], word.values
-        before, has_none = [], Word("mcrxrx", {"bf": field})
-        if not values["oe"]:
-            before = self.overflow_of(name, values, field)
-        words = before + [word] + ([has_none] if values["oe"] else []) + [self.zero_where(target, 4 * field)]
+        words = self.keep_small(word) if name == "divde" else []
+        if values["oe"]:
+            words += [word, Word("mcrxrx", {"bf": field}), self.zero_where(target, 4 * field)]
+        else:
+            words += self.overflow_of(name, values, field) + [word, self.zero_where(target, 4 * field)]
         is_word = name.startswith("divw")
         if is_word:
             words.append(self.no_upper(target))
         if values["rc"]:
             words += self.undefined_record(4 * field if not is_word else None)
         return words
+
+    def keep_small(self, word):
+        """Gives a quotient that would be of a size from 2^63 to 2^64 a divisor of 0: the size is that of the unsigned quotient."""
+        number, divisor = word.values["ra"], word.values["rb"]
+        spare, one, other, new = self.source.sample([it for it in self.free if it not in (number, divisor)], 4)
+        first, second = self.source.sample(range(1, 8), 2)
+        words = []
+        for register, size in ((number, one), (divisor, other)):
+            words += [Word("sradi", {"ra": spare, "rs": register, "sh": 63}), Word("xor", {"ra": size, "rs": register, "rb": spare}),
+                      Word("subf", {"rt": size, "ra": spare, "rb": size})]
+        word.values["rb"] = new
+        return words + [
+            Word("divdeu", {"rt": spare, "ra": one, "rb": other}),
+            Word("cmpl", {"bf": first, "wide": 1, "ra": one, "rb": other}),
+            Word("cmpi", {"bf": second, "wide": 1, "ra": spare}),
+            Word("crand", {"bt": 4 * first, "ba": 4 * first, "bb": 4 * second}),
+            Word("mcrf", {"bf": second, "bfa": first}),
+            Word("isel", {"rt": new, "ra": 0, "rb": divisor, "bit": 4 * first}),
+            self.number(spare, 1)]
 
     def overflow_of(self, name, values, field):
         """Puts whether there is no such quotient into the first bit of a field of CR; a register is written and then set."""
