@@ -20,6 +20,9 @@ XER_BITS = 0xE00C0000  # SO, OV, CA, OV32, CA32
 XER, LR, CTR, SPRG3, TB, TAR = 1, 8, 9, 259, 268, 815
 TO_COUNT = 0b00100  # the bit of bo that is 0 where CTR falls
 
+FRESH_CHANCE = 0.3  # that a number is loaded before a piece
+IGNORED_CHANCE = 0.2  # that ignored bits are set
+
 # Where loads and stores go: 512 bytes around the beginning of a page.
 DATA, DATA_SIZE, PAGE = 0x6F00, 512, 0x7000
 
@@ -154,6 +157,11 @@ class Drawer:
         high = Word("addis", {"rt": register, "ra": 0}, target, "high")
         return [high, Word("ori", {"ra": register, "rs": register}, target - 1, "low")]
 
+    def fresh_number(self):
+        """Loads a number from the data area, so that not all registers become 0 in the end."""
+        place = DATA + 4 * self.source.randrange(DATA_SIZE // 4 - 1)
+        return Word("ld", {"rt": self.free_register(), "ra": 0, "disp": place >> 2}, is_end=True)
+
     def to_special(self, number, register):
         return Word("mtspr", {"rs": register, "spr": number})
 
@@ -182,7 +190,7 @@ class Drawer:
                 found[field] = self.free_register()
         found.update(values)
         ignored = self.accepted.get(name, 0)
-        if self.source.random() < 0.8:
+        if self.source.random() >= IGNORED_CHANCE:
             ignored = 0
         return Word(name, found, ignored=ignored & self.source.getrandbits(WORD_BITS), is_drawn=True)
 
@@ -476,6 +484,8 @@ def random_block(shapes, source, accepted, deck, names, length):
     while drawn < length:
         if not deck:
             deck.extend(source.sample(names, len(names)))
+        if source.random() < FRESH_CHANCE:
+            pieces.append(Piece([drawer.fresh_number()]))
         pieces.append(drawer.piece(deck.pop()))
         drawn += sum(it.is_drawn for it in pieces[-1].words)
     special = {XER: source.getrandbits(64) & XER_BITS, LR: telling_number(source), CTR: telling_number(source), TAR: telling_number(source)}
