@@ -21,6 +21,7 @@ XER, LR, CTR, SPRG3, TB, TAR = 1, 8, 9, 259, 268, 815
 TO_COUNT = 0b00100  # the bit of bo that is 0 where CTR falls
 
 FRESH_CHANCE = 0.3  # that a number is loaded before a piece
+OBSERVED_CHANCE = 0.4  # that XER and CR are observed behind a piece
 IGNORED_CHANCE = 0.2  # that ignored bits are set
 
 # Where loads and stores go: 512 bytes around the beginning of a page.
@@ -143,7 +144,7 @@ class Drawer:
                    (PAGE + source.randrange(-32, 32) - far) & ALL_BITS, XER_BITS]
         self.known = dict(zip(source.sample(range(32), len(numbers)), numbers))
         self.mask = list(self.known)[-1]
-        self.free = [it for it in range(32) if it not in self.known]
+        self.witness, *self.free = source.sample([it for it in range(32) if it not in self.known], 32 - len(numbers))
         self.begin = [self.known.get(it, telling_number(source)) for it in range(32)]
 
     # Words that others need.
@@ -161,6 +162,14 @@ class Drawer:
         """Loads a number from the data area, so that not all registers become 0 in the end."""
         place = DATA + 4 * self.source.randrange(DATA_SIZE // 4 - 1)
         return Word("ld", {"rt": self.free_register(), "ra": 0, "disp": place >> 2}, is_end=True)
+
+    def observation(self):
+        """Adds XER and CR to the witness, which nothing else writes. So what is soon overwritten in them is not lost."""
+        spare = self.free_register()
+        turned = Word("rldicl", {"ra": self.witness, "rs": self.witness, "by": 7, "edge": 0})
+        add = Word("add", {"rt": self.witness, "ra": self.witness, "rb": spare})
+        words = [Word("mfspr", {"rt": spare, "spr": XER}), Word("and", {"ra": spare, "rs": spare, "rb": self.mask}), turned, add]
+        return Piece(words + [Word("mfcr", {"rt": spare}), dataclasses.replace(add, is_end=True)])
 
     def to_special(self, number, register):
         return Word("mtspr", {"rs": register, "spr": number})
@@ -488,5 +497,7 @@ def random_block(shapes, source, accepted, deck, names, length):
             pieces.append(Piece([drawer.fresh_number()]))
         pieces.append(drawer.piece(deck.pop()))
         drawn += sum(it.is_drawn for it in pieces[-1].words)
+        if source.random() < OBSERVED_CHANCE:
+            pieces.append(drawer.observation())
     special = {XER: source.getrandbits(64) & XER_BITS, LR: telling_number(source), CTR: telling_number(source), TAR: telling_number(source)}
     return Block(drawer.begin, special, source.getrandbits(32), pieces)
