@@ -135,6 +135,12 @@ def end_lines():
     return [f"std r0,{PLACE['r0']}(0)", f"mfspr r0,{LR}", f"std r0,{PLACE['lr']}(0)", "bl leave"]
 
 
+def word_lines(words):
+    """Words as directives, two in each, since a source has at most 65,536 lines."""
+    pairs = [f".dword {low | high << 32}" for low, high in zip(words[::2], words[1::2])]
+    return pairs + [f".word {it}" for it in words[2 * len(pairs):]]
+
+
 class Image:
     """The source of an image with these bodies and these bytes in its data area."""
 
@@ -153,7 +159,7 @@ class Image:
         code = len(begin) + len(words) + len(end) + 1
         odd = code % 2
         table = body.registers + [body.cr] + [body.special[it] for it in (XER, LR, CTR, TAR)]
-        self.lines += begin + [f".word {it}" for it in words] + end + [f"b block{number + 1}"] + [".word 0"] * odd
+        self.lines += begin + word_lines(words) + end + [f"b block{number + 1}"] + [".word 0"] * odd
         self.lines.append(f"table{number}:")
         self.lines += [f".dword {it}" for it in table]
         self.lines.append(f"block{number + 1}:")

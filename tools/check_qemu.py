@@ -8,7 +8,7 @@ Makes programs of COUNT instructions or a few more, drawn at random from the ope
 are of each program all general registers, CR, the five bits of XER, LR, CTR, TAR and a sum over the data area. Where they differ, the program is cut
 down to the one instruction behind which they do, which is printed with its operands and the registers before it; the exit status is then 1.
 
-What the two may differ in stands in MAY_DIFFER, with why and where the pages say so, and the programs keep clear of it. So each difference is an error.
+What the two may differ in stands in MAY_DIFFER, and the programs keep clear of it. So each difference is an error.
 With --only only these operations are drawn. The seed fixes the programs.
 """
 
@@ -32,36 +32,30 @@ LENGTH = 100  # instructions that are drawn for a program
 BLOCKS_OF_IMAGE = 150
 SHOWN = 3  # differences that are cut down and printed
 
-# What the two may differ in: what it is, how the programs keep clear of it, why it may differ, and where the pages say so.
+# What the two may differ in: what it is, how the programs keep clear of it, and why. docs/INSTRUCTIONS.md, "Differences from QEMU", has each of
+# these as a row.
 MAY_DIFFER = [
-    ("quotients and remainders that there are not, and CR0 of them",
+    ("a quotient or remainder that there is not, and CR0 of it",
      "OV of the quotient is copied to CR, and the register and the bits of CR0 become 0 where it is 1",
-     "the architecture leaves them undefined; here they are 0",
-     "docs/MACHINE.md, \"The forms of problem state\"; docs/DECISIONS.md, \"The machine\""),
-    ("the upper word of word quotients, word remainders and the high words of products, and CR0 of them",
+     "the architecture leaves them undefined; here they are 0"),
+    ("the upper word of word quotients and remainders and of mulhw and mulhwu, and CR0 of these",
      "the upper word and less, greater and equal of CR0 are cleared",
-     "the architecture leaves them undefined; here they are 0, and CR0 that of the whole value",
-     "docs/INSTRUCTIONS.md, \"How to read a meaning\"; docs/MACHINE.md, \"The forms of problem state\""),
-    ("quotients of `divde` that do not fit, but are of a size below 2^64",
+     "the architecture leaves them undefined; here they are 0, and CR0 that of the whole value"),
+    ("divde whose quotient is no signed number of 64 bits, but of a size below 2^64",
      "such a quotient gets a divisor of 0 before",
-     "QEMU (made with 7.2) compares the sizes of the operands alone, and gives the low 64 bits without OV. The architecture asks for a signed number",
-     "docs/INSTRUCTIONS.md, \"How to read a meaning\"; docs/PROVED.md, \"Tested against others\""),
-    ("words with a bit set that is ignored here",
+     "QEMU 7.2 compares the sizes of the operands alone; the architecture asks for a signed number"),
+    ("a bit that is ignored here",
      "only such bits are set as QEMU takes, which is asked bit by bit before",
-     "QEMU takes some words with a reserved bit set as no instruction",
-     "docs/INSTRUCTIONS.md, \"What a word means\"; docs/DECISIONS.md, \"The machine\""),
+     "QEMU takes many words with a reserved bit as no instruction"),
     ("bits of XER that are not SO, OV, CA, OV32 and CA32",
      "what is read from XER is cleared in all other bits",
-     "QEMU keeps any number that is written to XER",
-     "docs/MACHINE.md, \"Registers\""),
+     "QEMU keeps any number that is written to XER"),
     ("the time base",
      "what is read of it is not kept",
-     "here it is the number of steps, there the host's clock",
-     "docs/MACHINE.md, \"The step\"; docs/DECISIONS.md, \"The machine\""),
-    ("forms that are invalid here",
+     "here it is the number of steps, there the time of the host"),
+    ("invalid forms",
      "none is drawn",
-     "here they stop the machine by name",
-     "docs/INSTRUCTIONS.md, \"Invalid forms\""),
+     "here they stop the machine by name"),
 ]
 
 
