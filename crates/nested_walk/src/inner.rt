@@ -80,7 +80,13 @@ pub fn inside(target: &Target, goal: Goal, gra: u64, stage: PartStage) -> Stage
                 c,
             };
             let denial = denial_for(&target.ask, goal, &rights);
-            granted(&target.ask, goal, gra, real_address(page, bits, gra), denial)
+            granted(
+                &target.ask,
+                goal,
+                gra,
+                real_address(page, bits, gra),
+                denial,
+            )
         }
         PartStage::Ended(PartResult::Fault(kind)) => {
             partition_fault(&target.ask, kind_bits(kind) + table_bits(goal), gra)

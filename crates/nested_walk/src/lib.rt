@@ -18,3 +18,6 @@ pub use readings::{next_word, reading};
 pub use stages::{next, start};
 pub use targets::{Target, place_of};
 pub use walk::{begin_process, walk_fresh, walk_nested};
+
+#[cfg(test)]
+mod tests;

@@ -10,7 +10,9 @@ ghost use Rattle.nested_walk.specs.Targets.{task_for};
 use crate::faults::{process_fault, segment_fault};
 use crate::inner::enter;
 use crate::targets::Target;
-use journal_core::{Denial, FaultKind, Goal, NestResult, Node, PartResult, PartStage, Rights, Scope, Stage};
+use journal_core::{
+    Denial, FaultKind, Goal, NestResult, Node, PartResult, PartStage, Rights, Scope, Stage,
+};
 use part_walk::{begin_tree, entry_address, real_address};
 use protect::{denial_bits, kind_bits, permit};
 use table_formats::{Pate, Prte};

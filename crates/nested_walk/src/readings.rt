@@ -26,7 +26,15 @@ pub fn next_word(stage: Stage) -> Option<u64>
 }
 
 /// A reading of a target's own tables.
-fn own_reading(target: &Target, role: Role, level: u8, left: u8, at: u64, moment: u32, value: u64) -> ReadRow
+fn own_reading(
+    target: &Target,
+    role: Role,
+    level: u8,
+    left: u8,
+    at: u64,
+    moment: u32,
+    value: u64,
+) -> ReadRow
     ensures { result ≡ row_of role target.now.lpid target.now.pid target.now.address level left at value moment }
 {
     ReadRow {
@@ -57,11 +65,27 @@ pub fn reading(target: &Target, stage: Stage, moment: u32, value: u64) -> ReadRo
             part_walk::reading(target.lpid, gra, PartStage::Tree(node), moment, value)
         }
         Stage::ProcessEntry(at) => {
-            own_reading(target, Role::Prte, 0, Prte::root(value).bits, at, moment, value)
+            own_reading(
+                target,
+                Role::Prte,
+                0,
+                Prte::root(value).bits,
+                at,
+                moment,
+                value,
+            )
         }
         Stage::ProcessTable(node, at) => {
             let role = role_in_tree(value, Role::ProcessLeaf, Role::ProcessDir);
-            own_reading(target, role, node.level, node.left - node.size, at, moment, value)
+            own_reading(
+                target,
+                role,
+                node.level,
+                node.left - node.size,
+                at,
+                moment,
+                value,
+            )
         }
         Stage::Over(_) => unreachable!(),
     }
