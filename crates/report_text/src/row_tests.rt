@@ -241,10 +241,6 @@ fn each_stop_has_its_name(rt: HostRuntime) -> Result<(), Fail> {
             StopName::DeviceStop,
             "DeviceStop 0000000000000009 - - -\n.\n",
         ),
-        (
-            StopName::NoTranslation,
-            "NoTranslation 0000000000000009 - - -\n.\n",
-        ),
     ] {
         let mut journal = Journal::open(rt.alloc(), 1)?;
         journal.push_step(stopped(0, None, name, 9, [Use::Unused; 3]));
