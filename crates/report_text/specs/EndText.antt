@@ -7,7 +7,7 @@ use Rattle.journal_core.specs.declared.rows.Ended.TheVariants.{AllRun, ScheduleE
 use Rattle.journal_core.specs.declared.rows.RowKind.{RowKind}
 use Rattle.journal_core.specs.declared.rows.RowKind.TheVariants.{Reads, Fills, Writes, Dones, Devices, Steps}
 use Rattle.journal_core.specs.declared.rows.StopName.{StopName}
-use Rattle.journal_core.specs.declared.rows.StopName.TheVariants.{NoStorage, Unsupported, InvalidForm, DeviceAccess, ProfileBits, UnknownSpr, BadInvalidation, HashedPartition, GuestZero, DeviceStop, NoTranslation}
+use Rattle.journal_core.specs.declared.rows.StopName.TheVariants.{NoStorage, Unsupported, InvalidForm, DeviceAccess, ProfileBits, UnknownSpr, BadInvalidation, HashedPartition, GuestZero, DeviceStop}
 
 -- the name of a list of rows
 abbrev pub kind_name : RowKind → List ℕ
@@ -30,7 +30,6 @@ stop_name BadInvalidation = codes "BadInvalidation"
 stop_name HashedPartition = codes "HashedPartition"
 stop_name GuestZero = codes "GuestZero"
 stop_name DeviceStop = codes "DeviceStop"
-stop_name NoTranslation = codes "NoTranslation"
 
 -- a list that is full, with the number of its rows
 abbrev pub full_text : RowKind → ℕ → List ℕ

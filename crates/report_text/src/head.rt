@@ -38,7 +38,6 @@ pub(crate) fn stop_name(name: StopName) -> &'static [u8]
         StopName::HashedPartition => b"HashedPartition",
         StopName::GuestZero => b"GuestZero",
         StopName::DeviceStop => b"DeviceStop",
-        StopName::NoTranslation => b"NoTranslation",
     }
 }
 
