@@ -10,7 +10,7 @@ use Rattle.journal_core.specs.Ends.{ended_of, thread_of_row, Grows, stop_of}
 use Rattle.sched_text.specs.Plan.{Plan, turn}
 use Rattle.ppc_bus.specs.declared.slots.Slot.{Slot}
 use Rattle.ppc_bus.specs.Chains.{Chain}
-use Rattle.translator.specs.Choices.{RealChoice}
+use Rattle.journal_core.specs.Choice.{PlainChoice}
 use Rattle.ppc_step.specs.Rule.{StepsTo}
 use Rattle.ppc_machine.specs.MachineView.{MachineView, now_of, start_of, IsLawful}
 
@@ -20,7 +20,7 @@ pub record StepsOn {D : Type 0} (related : List (Option (Slot D)) → DeviceRow 
   pub entry : new.entry ≡ old.entry
   pub plugged : new.plugged ≡ old.plugged
   pub count : length new.threads ≡ length old.threads
-  pub steps : StepsTo RealChoice related old.journal new.journal old.slots new.slots (now_of old) (now_of new) t end
+  pub steps : StepsTo PlainChoice related old.journal new.journal old.slots new.slots (now_of old) (now_of new) t end
 
 -- a machine that stopped answers the same stop, and stays as it is
 abbrev pub stop_as : {D : Type 0} → Option (StopName × ℕ) → MachineView D → MachineView D → StepEnd → Type 0

@@ -1,6 +1,5 @@
 -- The state that a step leaves.
 use Rattle.std.proofs.Common.{◌≡◌, ℕ, ◌≤◌, Bool, true, false, if◌then◌else◌, List, [], ◌∷◌, length, Option, Some, None, refl, sym, ap, ◌∙◌, arith}
-use Rattle.std.specs.Prelude.{◌⊎◌}
 use Rattle.std.specs.List.{AllByRecursion}
 use Rattle.journal_core.specs.declared.causes.Cause.{Cause}
 use Rattle.journal_core.specs.declared.asks.Ask.{Ask}

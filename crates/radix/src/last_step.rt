@@ -89,9 +89,6 @@ impl fmt::Display for Stop {
                 f,
                 "DeviceStop, the device in slot {value} asked for it"
             ),
-            StopName::NoTranslation => {
-                f.write_str("NoTranslation, this version does not translate addresses")
-            }
         }
     }
 }

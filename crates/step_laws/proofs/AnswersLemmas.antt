@@ -1,21 +1,20 @@
 -- How many rows the answers of a step add.
-use Rattle.std.proofs.Common.{◌≡◌, ℕ, ◌+◌, ◌*◌, ◌≤◌, List, [], ◌∷◌, length, slice_get, take, Option, Some, None, refl, sym, ap, ◌∙◌, subst, arith, ◌⊎◌, inl, inr}
+use Rattle.std.proofs.Common.{◌≡◌, ℕ, ◌+◌, ◌*◌, ◌≤◌, List, [], ◌∷◌, length, Option, Some, refl, ap, subst, arith}
 use Rattle.journal_core.specs.declared.rows.ReadRow.{ReadRow}
-use Rattle.journal_core.specs.declared.rows.FillRow.{FillRow}
 use Rattle.journal_core.specs.declared.rows.Use.TheVariants.{Unused, Real as RealUse, Hit, Walked, Faulted}
 use Rattle.journal_core.specs.declared.asks.Ask.{Ask}
 use Rattle.journal_core.specs.declared.asks.Found.{Found}
 use Rattle.journal_core.specs.declared.asks.Found.TheVariants.{Real, Fault, Stop}
 use Rattle.journal_core.specs.declared.walks.TrailItem.{TrailItem}
 use Rattle.journal_core.specs.declared.walks.TrailItem.TheVariants.{Old, New}
-use Rattle.journal_core.specs.Turns.{Mark, Query, NoFewer}
+use Rattle.journal_core.specs.Turns.{Mark, Query}
 use Rattle.journal_core.specs.Standing.{fill_reads, AreRows}
 use Rattle.journal_core.specs.Resumed.{numbers_in, numbers_of}
 use Rattle.journal_core.specs.Fills.{new_rows}
 use Rattle.journal_core.specs.Rights.{first_denial}
 use Rattle.journal_core.specs.Walk.{never_denied}
 use Rattle.journal_core.specs.Choice.{SameMark, IsFault, IsStop}
-use Rattle.journal_core.specs.Answers.{AreItems, IsHit, IsWalked, IsAnswer, AreAnswered}
+use Rattle.journal_core.specs.Answers.{AreItems, IsWalked, IsAnswer, AreAnswered}
 use Rattle.walk_laws.proofs.WalkBounds.{walk-few}
 
 -- an answer adds no more reads and fills than one walk

@@ -1,3 +1,4 @@
 pub mod AnswersLemmas
 pub mod StoredLemmas
 pub mod RowsLemmas
+pub mod StatusLemmas

@@ -1,5 +1,5 @@
 -- How many rows a step adds, and how many a journal has.
-use Rattle.std.proofs.Common.{◌≡◌, ℕ, ◌+◌, ◌*◌, ◌<◌, ◌≤◌, ◌==◌, nat_lt, nat_le, min, Bool, true, false, if◌then◌else◌, List, [], ◌∷◌, ◌++◌, length, filter, Option, Some, None, refl, sym, ap, ◌∙◌, subst, arith, length-append}
+use Rattle.std.proofs.Common.{◌≡◌, ℕ, ◌+◌, ◌*◌, ◌<◌, ◌≤◌, ◌==◌, nat_lt, nat_le, Bool, true, false, if◌then◌else◌, List, [], ◌∷◌, length, filter, Option, Some, None, refl, sym, ap, ◌∙◌, subst, arith, length-append}
 use Rattle.std.proofs.lemmas.Bool.Decides.{nat_tests}
 use Rattle.journal_core.specs.declared.rows.ReadRow.{ReadRow}
 use Rattle.journal_core.specs.declared.rows.FillRow.{FillRow}
@@ -8,19 +8,19 @@ use Rattle.journal_core.specs.declared.rows.DoneRow.{DoneRow}
 use Rattle.journal_core.specs.declared.rows.DeviceRow.{DeviceRow}
 use Rattle.journal_core.specs.declared.rows.StepRow.{StepRow}
 use Rattle.journal_core.specs.Rows.{Rows, no_rows}
-use Rattle.journal_core.specs.Room.{HasRoom, step_reads, step_fills, step_writes, step_dones, step_devices, read_places, fill_places, write_places, done_places, device_places}
+use Rattle.journal_core.specs.Room.{step_reads, step_fills, step_writes, step_dones, step_devices, read_places, fill_places, write_places, done_places, device_places}
 use Rattle.journal_core.specs.Past.{past}
-use Rattle.journal_core.specs.Steps.{StepRows, InOrder, AreDated, IsDated, IsOwn, with_own, own_at, own_from, steps_of, rows_of_step}
-use Rattle.journal_core.specs.Runs.{PastStep, EachKeeps, state_after, IsRun}
-use Rattle.journal_core.specs.Turns.{Mark, mark_of, query_of}
+use Rattle.journal_core.specs.Steps.{StepRows, InOrder, IsDated, IsOwn, with_own, own_at, own_from, steps_of, rows_of_step}
+use Rattle.journal_core.specs.Runs.{PastStep, EachKeeps, state_after}
+use Rattle.journal_core.specs.Turns.{Mark, query_of}
 use Rattle.journal_core.specs.Answers.{mark_at}
 use Rattle.journal_core.proofs.StepsLemmas.{IsDated-push}
 use Rattle.storage_ops.specs.Effects.{behind, answer_in}
 use Rattle.ppc_step.specs.States.{State}
-use Rattle.ppc_step.specs.Steps.{step_asks, step_outcome}
+use Rattle.ppc_step.specs.Steps.{step_asks}
 use Rattle.ppc_step.specs.Rule.{KeepsRule, thread_in, turn_after, outcome_of, next_state, IsLawfulRun}
 use Rattle.ppc_step.proofs.MarksLemmas.{mark_before, mark_behind}
-use Rattle.step_laws.specs.Rows.{AreFew, StepsAddFew, surely, ShortRunsHaveRoom}
+use Rattle.step_laws.specs.Rows.{AreFew, StepsAddFew, ShortRunsHaveRoom}
 use Rattle.step_laws.proofs.AnswersLemmas.{IsFew, few_answers}
 use Rattle.step_laws.proofs.StoredLemmas.{few_stored, writes_long, few_asked}
 

@@ -1,11 +1,10 @@
 -- How many pieces a step stores.
-use Rattle.std.proofs.Common.{◌≡◌, ℕ, ◌+◌, ◌≤◌, ◌/◌, ◌^◌, ◌%◌, nat_le, Bool, true, false, if◌then◌else◌, List, [], ◌∷◌, length, Option, Some, None, refl, arith}
+use Rattle.std.proofs.Common.{◌≡◌, ℕ, ◌+◌, ◌≤◌, ◌/◌, ◌^◌, nat_le, Bool, true, false, if◌then◌else◌, List, [], ◌∷◌, length, Option, Some, None, refl, arith}
 use Rattle.journal_core.specs.declared.causes.Cause.{Cause}
 use Rattle.journal_core.specs.declared.rows.StopName.{StopName}
 use Rattle.journal_core.specs.declared.rows.DeviceRow.{DeviceRow}
 use Rattle.journal_core.specs.declared.asks.Found.{Found}
 use Rattle.journal_core.specs.declared.asks.Found.TheVariants as founds_of
-use Rattle.journal_core.specs.declared.rows.WriteRow.{WriteRow}
 use Rattle.journal_core.specs.Past.{write_row, written}
 use Rattle.form_outcomes.specs.Outcomes.{Outcome, Goes, Takes, Stops, unless, unsupported}
 use Rattle.ppc_ops.specs.declared.op.Op.{Op}
@@ -24,15 +23,15 @@ use Rattle.storage_ops.specs.declared.deeds.Deed.TheVariants.{Moves, Clears, Tou
 use Rattle.storage_ops.specs.declared.parts.Part.{Part}
 use Rattle.storage_ops.specs.AccessTable.{access_form}
 use Rattle.storage_ops.specs.Forms.{sent}
-use Rattle.storage_ops.specs.Parts.{part, left_in_page, parts_of, is_whole}
+use Rattle.storage_ops.specs.Parts.{part, left_in_page, is_whole}
 use Rattle.storage_ops.specs.Deeds.{deed_of, reserves_by, is_misaligned, parts_in}
 use Rattle.storage_ops.specs.Reaching.{and_then, laid}
 use Rattle.storage_ops.specs.Checks.{first_refusal, unless_refused, device_of}
-use Rattle.storage_ops.specs.Effects.{Stored, DeviceAsk, After, Around, around, registers, split, load_after, store_after, move_after, move_outcome, clear_after, clear_outcome, placed_outcome, deed_outcome, storage_outcome, behind, writes_of, AreAskedBy, AreAsked}
+use Rattle.storage_ops.specs.Effects.{Stored, DeviceAsk, After, Around, around, split, load_after, store_after, move_after, clear_after, placed_outcome, deed_outcome, storage_outcome, behind, writes_of, AreAskedBy, AreAsked}
 use Rattle.ppc_step.specs.Effects.{thread_outcome}
 use Rattle.ppc_step.specs.States.{word_at}
 use Rattle.ppc_step.specs.Steps.{fetched_outcome, found_outcome, outcome_unless, step_outcome}
-use Rattle.ppc_step.specs.Words.{alone, onward, access_outcome, refusal_of, indexed_outcome, form_outcome, decoded_outcome, word_outcome}
+use Rattle.ppc_step.specs.Words.{alone, onward, access_outcome, refusal_of, form_outcome, decoded_outcome, word_outcome}
 
 -- where it goes on, at most sixteen pieces are stored
 abbrev pub StoresFew : Outcome After → Type 0

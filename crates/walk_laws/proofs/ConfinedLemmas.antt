@@ -174,10 +174,10 @@ given_process_tree ask lpid pid address all rest level v guest =
     (λ leaf size. given_result ask lpid pid address all (real_in (bits v 7 51 * 2 ^ 12) rest address) (first_denial ask (process_rights (bits v 58 59) (bits v 60 63) (is_one v 55) (is_one v 56)) ask.access) guest)
 
 given_next : (ask : Ask) (lpid pid address : ℕ) (all : List ReadRow) (s : Stage) (r : ReadRow) → IsGivenAt ask lpid all s → IsRead (walk_of ask lpid pid address) s r → Contains all r → IsGivenAt ask lpid all (next (walk_of ask lpid pid address) s r.value)
-given_next ask lpid pid address all (SecondWord at) r h read there = by_second (IsGivenAt ask lpid all) (walk_of ask lpid pid address) r.value (λ cause. tt) (λ gra. given_enter ask lpid pid address all ForEntry gra h)
+given_next ask lpid pid address all (SecondWord at) r h read there = by_second (IsGivenAt ask lpid all) (walk_of ask lpid pid address) r.value (λ kind. tt) (λ gra. given_enter ask lpid pid address all ForEntry gra h)
 given_next ask lpid pid address all (PartEntry goal gra at) r h read there = given_entry ask lpid pid address all goal gra r.value h
 given_next ask lpid pid address all (PartTable goal gra n) r h read there = given_tree ask lpid pid address all goal gra n r h read there
-given_next ask lpid pid address all (ProcessEntry at) r h read there = by_process_entry (IsGivenAt ask lpid all) (walk_of ask lpid pid address) r.value (λ cause. tt) (λ n. given_process_node ask lpid pid address all n h.0)
+given_next ask lpid pid address all (ProcessEntry at) r h read there = by_process_entry (IsGivenAt ask lpid all) (walk_of ask lpid pid address) r.value (λ kind. tt) tt (λ n. given_process_node ask lpid pid address all n h.0)
 given_next ask lpid pid address all (ProcessTable n at) r h read there = given_process_tree ask lpid pid address all (n.left - n.size) n.level r.value h.0
 given_next ask lpid pid address all (Over out) r h read there = absurd read
 
@@ -224,7 +224,7 @@ other lpid away = by_case (lpid == 0) refl
     by_case true e = absurd (away (equal lpid e))
 
 given_start : (ask : Ask) (lpid pid address : ℕ) (all : List ReadRow) → (lpid == 0) ≡ false → IsGivenAt ask lpid all (process_start (walk_of ask lpid pid address))
-given_start ask lpid pid address all guest = by_process_start (IsGivenAt ask lpid all) (walk_of ask lpid pid address) (λ cause. tt) guest
+given_start ask lpid pid address all guest = by_process_start (IsGivenAt ask lpid all) (walk_of ask lpid pid address) tt guest
 
 confined_at : (ask : Ask) (p : Place) (rs : List ReadRow) (real : ℕ) → Follows (task_at (first_denial ask) ask p) (start_at (task_at (first_denial ask) ask p) p) rs → stage_after (task_at (first_denial ask) ask p) (start_at (task_at (first_denial ask) ask p) p) rs ≡ Over (Page real) →
     IsConfinedAt p ask.access rs real

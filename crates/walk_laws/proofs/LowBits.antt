@@ -85,10 +85,10 @@ unfolding in_process
 low_process_node k n = by_node (λ p. LowAt k.address (in_process k p)) n (λ kind. tt) (low_table k n)
 
 low_next : (k : Task) (s : Stage) (v : ℕ) → LowAt k.address s → LowAt k.address (next k s v)
-low_next k (SecondWord at) v low = by_second (LowAt k.address) k v (λ cause. tt) (λ gra. low_enter k ForEntry gra tt)
+low_next k (SecondWord at) v low = by_second (LowAt k.address) k v (λ kind. tt) (λ gra. low_enter k ForEntry gra tt)
 low_next k (PartEntry goal gra at) v low = low_entry k goal gra v low
 low_next k (PartTable goal gra n) v low = low_tree k goal gra (n.left - n.size) n.level v low
-low_next k (ProcessEntry at) v low = by_process_entry (LowAt k.address) k v (λ cause. tt) (λ n. low_process_node k n)
+low_next k (ProcessEntry at) v low = by_process_entry (LowAt k.address) k v (λ kind. tt) tt (λ n. low_process_node k n)
 low_next k (ProcessTable n at) v low = low_process_tree k (n.left - n.size) n.level v
 low_next k (Over (Page real)) v low = low
 low_next k (Over (Fault cause)) v low = low
@@ -146,7 +146,7 @@ low_place ask =
     (λ e. if_else (LowPlace ask.ea) (is_hypervisor ask) (Real (bits ask.ea 4 63)) (GuestReal ask.lpid (bits ask.ea 4 63)) (λ e. omega arith) (λ e. omega arith))
 
 low_start : (k : Task) → LowAt k.address (process_start k)
-low_start k = by_process_start (LowAt k.address) k (λ cause. tt) tt
+low_start k = by_process_start (LowAt k.address) k tt tt
 
 low_from : (ask : Ask) (p : Place) (rs : List ReadRow) (real : ℕ) → LowPlace ask.ea p → stage_after (task_at never_denied ask p) (start_at (task_at never_denied ask p) p) rs ≡ Over (Page real) → LowOf real ask.ea
 low_from ask (Real a) rs real low leads = subst (LowAt a) leads (low_after (task_at never_denied ask (Real a)) (Over (Page a)) rs refl) ∙ low

@@ -7,7 +7,6 @@ use Rattle.journal_core.specs.PartitionWalk.{has_entry, entry_place, root_bits, 
 use Rattle.journal_core.specs.Walk.{Task, enter, in_process, after_second, after_process_entry, process_start}
 use Rattle.journal_core.specs.declared.rows.StopName.{StopName}
 use Rattle.journal_core.specs.declared.rows.StopName.TheVariants.{HashedPartition}
-use Rattle.journal_core.specs.declared.causes.Cause.{Cause}
 use Rattle.journal_core.specs.declared.walks.FaultKind.{FaultKind}
 use Rattle.journal_core.specs.declared.walks.FaultKind.TheVariants.{Missing, Unsupported}
 use Rattle.journal_core.specs.declared.walks.PartResult.{PartResult}
@@ -89,22 +88,22 @@ by_tree P rest level v faults trees leaves = if_else P (bits v 0 0 == 0) (Ended 
     by_valid : P valid
     by_valid = if_else P (is_leaf v) (Ended result) below (λ leaf. if_else (λ out. P (Ended out)) (is_page_size rest) (leaf_here rest v) (PartFault Unsupported) (leaves leaf) (λ e. faults Unsupported)) (λ e. by_below)
 
-pub by_second : (P : Stage → Type 0) (k : Task) (v : ℕ) → ((cause : Cause) → P (Over (Fault cause))) → ((gra : ℕ) → P (enter k ForEntry gra)) → P (after_second k v)
+pub by_second : (P : Stage → Type 0) (k : Task) (v : ℕ) → ((kind : FaultKind) → P (Over (Fault (process_fault k.ask (kind_bits kind))))) → ((gra : ℕ) → P (enter k ForEntry gra)) → P (after_second k v)
 unfolding after_second
 by_second P k v faults entered =
-    if_else P (nat_lt (16 * k.pid) (2 ^ (12 + bits v 59 63))) (enter k ForEntry (bits v 4 51 * 2 ^ 12 + 16 * k.pid)) (Over (Fault (process_fault k.ask (kind_bits Missing)))) (λ e. entered (bits v 4 51 * 2 ^ 12 + 16 * k.pid)) (λ e. faults (process_fault k.ask (kind_bits Missing)))
+    if_else P (nat_lt (16 * k.pid) (2 ^ (12 + bits v 59 63))) (enter k ForEntry (bits v 4 51 * 2 ^ 12 + 16 * k.pid)) (Over (Fault (process_fault k.ask (kind_bits Missing)))) (λ e. entered (bits v 4 51 * 2 ^ 12 + 16 * k.pid)) (λ e. faults Missing)
 
-pub by_process_entry : (P : Stage → Type 0) (k : Task) (v : ℕ) → ((cause : Cause) → P (Over (Fault cause))) → ((n : Node) → P (in_process k (at_node n))) → P (after_process_entry k v)
+pub by_process_entry : (P : Stage → Type 0) (k : Task) (v : ℕ) → ((kind : FaultKind) → P (Over (Fault (process_fault k.ask (kind_bits kind))))) → P (Over (Fault (segment_fault k.ask))) → ((n : Node) → P (in_process k (at_node n))) → P (after_process_entry k v)
 unfolding after_process_entry
-by_process_entry P k v faults nodes = if_else P (nat_lt 52 (root_bits v)) (Over (Fault (process_fault k.ask (kind_bits Unsupported)))) inner (λ e. faults (process_fault k.ask (kind_bits Unsupported))) (λ e. by_inner)
+by_process_entry P k v faults segment nodes = if_else P (nat_lt 52 (root_bits v)) (Over (Fault (process_fault k.ask (kind_bits Unsupported)))) inner (λ e. faults Unsupported) (λ e. by_inner)
   where
     inner : Stage
     inner = if nat_le (2 ^ root_bits v) k.address then Over (Fault (segment_fault k.ask)) else in_process k (at_node (node_of v (root_bits v) 1))
 
     by_inner : P inner
-    by_inner = if_else P (nat_le (2 ^ root_bits v) k.address) (Over (Fault (segment_fault k.ask))) (in_process k (at_node (node_of v (root_bits v) 1))) (λ e. faults (segment_fault k.ask)) (λ e. nodes (node_of v (root_bits v) 1))
+    by_inner = if_else P (nat_le (2 ^ root_bits v) k.address) (Over (Fault (segment_fault k.ask))) (in_process k (at_node (node_of v (root_bits v) 1))) (λ e. segment) (λ e. nodes (node_of v (root_bits v) 1))
 
-pub by_process_start : (P : Stage → Type 0) (k : Task) → ((cause : Cause) → P (Over (Fault cause))) → P (SecondWord (entry_place k.ask.ptcr k.lpid + 8)) → P (process_start k)
+pub by_process_start : (P : Stage → Type 0) (k : Task) → P (Over (Fault (partition_fault k.ask (kind_bits Missing) 0))) → P (SecondWord (entry_place k.ask.ptcr k.lpid + 8)) → P (process_start k)
 unfolding process_start
-by_process_start P k faults second =
-    if_else P (has_entry k.ask.ptcr k.lpid) (SecondWord (entry_place k.ask.ptcr k.lpid + 8)) (Over (Fault (partition_fault k.ask (kind_bits Missing) 0))) (λ e. second) (λ e. faults (partition_fault k.ask (kind_bits Missing) 0))
+by_process_start P k fault second =
+    if_else P (has_entry k.ask.ptcr k.lpid) (SecondWord (entry_place k.ask.ptcr k.lpid + 8)) (Over (Fault (partition_fault k.ask (kind_bits Missing) 0))) (λ e. second) (λ e. fault)

@@ -111,11 +111,11 @@ const PROGRAMS: [Program; 5] = [
         nia: (0x1_0010, 4),
         saved: (0, 0),
     },
-    // mfmsr r5; ori r5,r5,0x10; mtmsrd r5; lbz r3,0(0): data are to be translated, and the fetch is not
+    // mfmsr r5; ori r5,r5,0x10; mtmsrd r5; lbz r3,0(0): data are translated, and partition 0 has no entry; the fetch is not
     Program {
         words: [0x7ca0_00a6, 0x60a5_0010, 0x7ca0_0164, 0x8860_0000, 0],
         steps: 9,
-        end: Ended::Stopped(StopName::NoTranslation, 0),
+        end: Ended::Stopped(StopName::HashedPartition, 0),
         rows: (4, 0),
         uses: [Use::Real(0x1_000c), Use::Unused, Use::Unused],
         nia: (0x1_000c, 3),

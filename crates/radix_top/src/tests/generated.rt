@@ -92,8 +92,8 @@ fn the_hypervisor_enters_its_first_guest_in_seventeen_steps(rt: HostRuntime) -> 
     let file = fixture(&rt)?;
     let (status, steps, last) = run(rt.alloc(), &file)?;
     assert_eq!(rt; file.len(), 74_344);
-    assert_eq!(rt; status, Status::Stopped(StopName::NoTranslation, 0));
-    assert_eq!(rt; steps, 18);
+    assert_eq!(rt; status, Status::Stopped(StopName::Unsupported, 0x7e81_c264));
+    assert_eq!(rt; steps, 26);
     assert_eq!(rt; last, Some((0x1_0040, Some(0x4c00_0224))));
     Ok(())
 }
