@@ -122,7 +122,8 @@ def whole_records(data, count):
 
 def probe(shapes, name, ignored, folder):
     """Whether QEMU takes a word of an operation with these ignored bits as an instruction."""
-    values = {"rt": 5, "ra": 4, "rb": 3, "rs": 4, "bo": 20, "bd": 1, "li": 1, "spr": 1, "fxm": 1}
+    scale = 2 if "scales_displacement" in shapes.groups[name] else 0
+    values = {"rt": 5, "ra": 4, "rb": 3, "rs": 4, "bo": 20, "bd": 1, "li": 1, "spr": 1, "fxm": 1, "disp": PAGE >> scale}
     begin = BEGIN + 4 * 6
     before = [Word("addi", {"rt": 3, "si": PAGE}), Word("addi", {"rt": 4}), Word("addi", {"rt": 6, "si": begin + 4})]
     before += [Word("mtspr", {"rs": 6, "spr": it}) for it in (LR, CTR, TAR)]
@@ -143,14 +144,19 @@ def plain_image(words):
 
 
 def accepted_bits(shapes, names, folder):
-    """Of each operation the ignored bits that QEMU takes."""
-    accepted = {}
+    """Of each operation the ignored bits that QEMU takes. Ends the script where it does not know the operation."""
+    accepted, unknown = {}, []
     for name in names:
         ignored = shapes.ignored_bits(name)
-        if ignored and not probe(shapes, name, ignored, folder):
+        if not probe(shapes, name, ignored, folder):
             single = [1 << it for it in range(WORD_BITS) if ignored >> it & 1]
+            if not probe(shapes, name, 0, folder):
+                unknown.append(name)
             ignored = sum(it for it in single if len(single) > 1 and probe(shapes, name, it, folder))
         accepted[name] = ignored
+    if unknown:
+        version = subprocess.run(QEMU[:1] + ["--version"], capture_output=True, text=True).stdout.split("\n")[0]
+        sys.exit(f"check_qemu: {version} does not know {', '.join(unknown)} as operations of a POWER9. Version 7.2 knows all of the table.")
     return accepted
 
 

@@ -2,7 +2,7 @@
 
 #include "show.h"
 
-#define LIMBS 24
+#define LIMBS 16
 
 /* The lowest limb first. */
 typedef struct {
@@ -91,19 +91,19 @@ static big power_of(u32 base, u32 exponent)
 PROGRAM
 {
     big factorial = of_small(1), one = of_small(0), other = of_small(1);
-    for (u32 i = 2; i <= 60; i++) {
+    for (u32 i = 2; i <= 40; i++) {
         big factor = of_small(i);
         factorial = product_of(&factorial, &factor);
     }
-    show_big("60!", factorial);
-    for (int i = 0; i < 300; i++) {
+    show_big("40!", factorial);
+    for (int i = 0; i < 120; i++) {
         big next = sum_of(&one, &other);
         one = other;
         other = next;
     }
-    show_big("the 300th sum", one);
-    show_big("7^211", power_of(7, 211));
-    show_big("2^767", power_of(2, 767));
-    show_named("60! modulo 1000003", divide(&factorial, 1000003));
+    show_big("the 120th sum", one);
+    show_big("7^181", power_of(7, 181));
+    show_big("2^511", power_of(2, 511));
+    show_named("40! modulo 1000003", divide(&factorial, 1000003));
     show_big("and its quotient", factorial);
 }

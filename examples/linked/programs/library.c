@@ -2,11 +2,15 @@
 
 typedef unsigned char u8;
 typedef unsigned long size;
+typedef unsigned long doubleword __attribute__((may_alias, aligned(1)));
 
+/* By doublewords, which need not be aligned, and then by bytes. */
 void *memcpy(void *to, const void *from, size count)
 {
     u8 *out = to;
     const u8 *in = from;
+    for (; count >= 8; count -= 8, out += 8, in += 8)
+        *(doubleword *)out = *(const doubleword *)in;
     while (count--)
         *out++ = *in++;
     return to;
@@ -16,7 +20,7 @@ void *memmove(void *to, const void *from, size count)
 {
     u8 *out = to;
     const u8 *in = from;
-    if (out <= in)
+    if (out <= in || out >= in + count)
         return memcpy(to, from, count);
     while (count--)
         out[count] = in[count];
@@ -26,6 +30,8 @@ void *memmove(void *to, const void *from, size count)
 void *memset(void *to, int byte, size count)
 {
     u8 *out = to;
+    for (; count >= 8; count -= 8, out += 8)
+        *(doubleword *)out = (u8)byte * 0x0101010101010101UL;
     while (count--)
         *out++ = (u8)byte;
     return to;

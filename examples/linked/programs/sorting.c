@@ -2,7 +2,7 @@
 
 #include "show.h"
 
-#define COUNT 200
+#define COUNT 160
 
 static i64 numbers[COUNT], copy[COUNT], spare[COUNT];
 

@@ -2,7 +2,7 @@
 
 #include "show.h"
 
-#define LENGTH 1500
+#define LENGTH 600
 
 static u8 text[LENGTH + 1];
 
