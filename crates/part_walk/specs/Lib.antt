@@ -1,5 +1,6 @@
 pub mod Adds
 pub mod Entries
+pub mod GivenJournal
 pub mod PartLaws
 pub mod Ranges
 pub mod Steps

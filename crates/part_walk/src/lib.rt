@@ -20,4 +20,6 @@ pub use trail::Trail;
 pub use walk::{begin_with, walk_partition, walk_partition_fresh};
 
 #[cfg(test)]
+mod kept_tests;
+#[cfg(test)]
 mod tests;
