@@ -3,6 +3,7 @@ pub mod EndText
 pub mod ThreadText
 pub mod StepText
 pub mod AccessText
+pub mod WalkText
 pub mod ConsoleText
 pub mod Report
 pub mod Listing

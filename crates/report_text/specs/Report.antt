@@ -11,6 +11,7 @@ use Rattle.report_text.specs.ThreadText.{thread_texts}
 use Rattle.report_text.specs.ConsoleText.{console_lines}
 use Rattle.report_text.specs.StepText.{step_lines}
 use Rattle.report_text.specs.AccessText.{write_lines, device_lines}
+use Rattle.report_text.specs.WalkText.{read_lines, fill_lines}
 
 abbrev pub first_line : List ℕ
 first_line = codes "radix 1" ++ end_of_line
@@ -41,6 +42,8 @@ last_line = codes "." ++ end_of_line
 pub record Flags : Type 0 where
   -- the step rows, the write rows and the device rows
   pub trace : Bool
+  -- the read rows and the fill rows
+  pub walks : Bool
 
 -- the lines, where they are asked for
 abbrev pub lines_if : Bool → List (List ℕ) → List ℕ
@@ -55,6 +58,8 @@ sections end threads rows flags =
     ∷ lines_if flags.trace (step_lines rows.steps)
     ∷ lines_if flags.trace (write_lines rows.writes)
     ∷ lines_if flags.trace (device_lines rows.devices)
+    ∷ lines_if flags.walks (read_lines rows.reads)
+    ∷ lines_if flags.walks (fill_lines rows.fills)
     ∷ last_line
     ∷ []
 

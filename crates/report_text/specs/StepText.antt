@@ -1,5 +1,5 @@
 -- Step rows, as text.
-use Rattle.std.specs.Prelude.{ℕ, ◌+◌, List, [], ◌∷◌, ◌++◌, codes, map, Option, Some, None}
+use Rattle.std.specs.Prelude.{ℕ, List, [], ◌∷◌, ◌++◌, codes, map, Option, Some, None}
 use Rattle.std.specs.Fmt.{decimal}
 use Rattle.line_text.specs.Text.{hex}
 use Rattle.journal_core.specs.declared.rows.StepEnd.{StepEnd}
@@ -11,7 +11,7 @@ use Rattle.interrupts.specs.Table.{offset_of}
 use Rattle.report_text.specs.declared.step_ends.LineEnd.{LineEnd}
 use Rattle.report_text.specs.declared.step_ends.LineEnd.TheVariants.{Ran, Took, Stop}
 use Rattle.report_text.specs.EndText.{stop_name}
-use Rattle.report_text.specs.Words.{line_of}
+use Rattle.report_text.specs.Words.{line_of, numbered}
 
 -- how the line of a step says that it ended so: a taken cause is told by its offset alone
 abbrev pub line_end : StepEnd → LineEnd
@@ -54,11 +54,6 @@ step_words number thread end cia word uses =
 abbrev pub step_line : ℕ → StepRow → List ℕ
 step_line number row = line_of (step_words number row.thread (line_end row.end) row.cia row.word row.uses)
 
--- the lines of step rows, numbered from this number on
-abbrev pub step_lines_from : ℕ → List StepRow → List (List ℕ)
-step_lines_from number [] = []
-step_lines_from number (row ∷ rows) = step_line number row ∷ step_lines_from (number + 1) rows
-
 -- the lines of the step rows of a run
 abbrev pub step_lines : List StepRow → List (List ℕ)
-step_lines rows = step_lines_from 0 rows
+step_lines rows = numbered step_line 0 rows

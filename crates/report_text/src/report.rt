@@ -12,6 +12,7 @@ use crate::consoles::put_consoles;
 use crate::head::HeadLines;
 use crate::step_lines::StepLines;
 use crate::thread_lines::ThreadLines;
+use crate::walk_lines::{FillLines, ReadLines};
 use journal_core::{Ended, Journal};
 use line_text::{Lines, print_lines};
 use outer_io::{Sink, SinkFault};
@@ -60,12 +61,17 @@ fn put_lines_if<L: Lines, K: Sink>(asked: bool, lines: &L, out: &mut K) -> Resul
 }
 
 /// Puts the report of a machine, whose LPIDR and PIDR keep to their widths; with `trace` also its step rows, write rows and
-/// device rows. Each line is one piece but those of consoles, which are more; no piece holds bytes of two lines. Stops at the
+/// device rows, and with `walks` its read rows and fill rows. Each line is one piece but those of consoles, which are more; no piece holds bytes of two lines. Stops at the
 /// first fault of the sink, which then has a front of the report. Takes no memory.
-pub fn print_report<K: Sink>(parts: &ReportParts, trace: bool, out: &mut K) -> Result<(), SinkFault>
+pub fn print_report<K: Sink>(
+    parts: &ReportParts,
+    trace: bool,
+    walks: bool,
+    out: &mut K,
+) -> Result<(), SinkFault>
     requires { AreWithinWidths parts.now.threads.now }
     ensures { Puts (K.told out.old) (K.told out.new) (K.faults out.old) (K.faults out.new) result
-        (report parts.now.end parts.now.threads.now parts.now.journal.now.rows (record { trace = trace })) }
+        (report parts.now.end parts.now.threads.now parts.now.journal.now.rows (record { trace = trace; walks = walks })) }
 {
     let threads = parts.threads.as_slice();
     let journal = parts.journal;
@@ -80,5 +86,7 @@ pub fn print_report<K: Sink>(parts: &ReportParts, trace: bool, out: &mut K) -> R
     put_lines_if(trace, &StepLines { journal }, out)?;
     put_lines_if(trace, &WriteLines { journal }, out)?;
     put_lines_if(trace, &DeviceLines { journal }, out)?;
+    put_lines_if(walks, &ReadLines { journal }, out)?;
+    put_lines_if(walks, &FillLines { journal }, out)?;
     out.put(b".\n")
 }

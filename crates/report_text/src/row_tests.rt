@@ -133,14 +133,19 @@ fn shown(slot: u8, byte: u8) -> DeviceRow
 }
 
 /// Puts the report of a thread at its start, with these rows.
-fn report_to<K: Sink>(journal: &Journal, trace: bool, out: &mut K) -> Result<(), SinkFault> {
+pub(crate) fn report_to<K: Sink>(
+    journal: &Journal,
+    trace: bool,
+    walks: bool,
+    out: &mut K,
+) -> Result<(), SinkFault> {
     let threads = Threads::reset(1, 0x1_0000);
     let parts = ReportParts {
         threads: &threads,
         journal,
         end: Ended::AllRun,
     };
-    print_report(&parts, trace, out)
+    print_report(&parts, trace, walks, out)
 }
 
 #[test]
@@ -171,7 +176,7 @@ fn a_store_across_a_page_has_two_write_rows(rt: HostRuntime) -> Result<(), Fail>
     journal.push_step(ran(0x1_0008, 0xf864_fffc, pages));
     journal.push_step(ran(0x1_000c, 0xe8a4_fffc, again));
     let mut out = MemSink::open(rt.alloc(), 8192)?;
-    assert_eq!(rt; report_to(&journal, true, &mut out), Ok(()));
+    assert_eq!(rt; report_to(&journal, true, false, &mut out), Ok(()));
     assert!(rt; out.bytes().ends_with(STORE_ACROSS_A_PAGE.as_bytes()));
     Ok(())
 }
@@ -199,7 +204,7 @@ fn each_kind_of_step_has_its_words(rt: HostRuntime) -> Result<(), Fail> {
     ));
     journal.push_step(stopped(0x2_0000, None, StopName::GuestZero, 0, [Use::Unused; 3]));
     let mut out = MemSink::open(rt.alloc(), 8192)?;
-    assert_eq!(rt; report_to(&journal, true, &mut out), Ok(()));
+    assert_eq!(rt; report_to(&journal, true, false, &mut out), Ok(()));
     assert!(rt; out.bytes().ends_with(EACH_KIND_OF_STEP.as_bytes()));
     Ok(())
 }
@@ -245,7 +250,7 @@ fn each_stop_has_its_name(rt: HostRuntime) -> Result<(), Fail> {
         let mut journal = Journal::open(rt.alloc(), 1)?;
         journal.push_step(stopped(0, None, name, 9, [Use::Unused; 3]));
         let mut out = MemSink::open(rt.alloc(), 8192)?;
-        assert_eq!(rt; report_to(&journal, true, &mut out), Ok(()));
+        assert_eq!(rt; report_to(&journal, true, false, &mut out), Ok(()));
         assert!(rt; out.bytes().ends_with(want.as_bytes()));
     }
     Ok(())
@@ -262,7 +267,7 @@ fn each_signal_has_its_words(rt: HostRuntime) -> Result<(), Fail> {
     journal.push_device(loaded(1, 2, 6));
     journal.push_device(stored(1, 7, u32::MAX, 4, 0xffff_ffff, Signal::Stop));
     let mut out = MemSink::open(rt.alloc(), 8192)?;
-    assert_eq!(rt; report_to(&journal, true, &mut out), Ok(()));
+    assert_eq!(rt; report_to(&journal, true, false, &mut out), Ok(()));
     assert!(rt; out.bytes().ends_with(EACH_SIGNAL.as_bytes()));
     Ok(())
 }
@@ -281,7 +286,7 @@ fn consoles_show_their_own_bytes(rt: HostRuntime) -> Result<(), Fail> {
     journal.push_device(shown(2, b'~'));
     journal.push_device(shown(2, b' '));
     let mut out = MemSink::open(rt.alloc(), 8192)?;
-    assert_eq!(rt; report_to(&journal, false, &mut out), Ok(()));
+    assert_eq!(rt; report_to(&journal, false, false, &mut out), Ok(()));
     assert!(rt; out.bytes().ends_with(TWO_CONSOLES.as_bytes()));
     Ok(())
 }
@@ -327,7 +332,7 @@ fn no_piece_has_bytes_of_two_lines(rt: HostRuntime) -> Result<(), Fail> {
         lines: 0,
         has_bytes_of_two_lines: false,
     };
-    assert_eq!(rt; report_to(&journal, true, &mut out), Ok(()));
+    assert_eq!(rt; report_to(&journal, true, false, &mut out), Ok(()));
     assert_eq!(rt; out.lines, 4 + 20 + 1 + 1 + 250 + 1);
     assert!(rt; out.pieces > out.lines + 2);
     assert!(rt; !out.has_bytes_of_two_lines);
@@ -341,18 +346,18 @@ fn a_fault_at_any_put_leaves_a_front(rt: HostRuntime) -> Result<(), Fail> {
     journal.push_write(written(1, 0x2_0000));
     journal.push_device(stored(1, 0, 0, 1, 0x41, Signal::Byte(0x41)));
     let mut whole = MemSink::open(rt.alloc(), 8192)?;
-    assert_eq!(rt; report_to(&journal, true, &mut whole), Ok(()));
+    assert_eq!(rt; report_to(&journal, true, false, &mut whole), Ok(()));
     for call in 1..32u32 {
         for added in [0, 1] {
             let mut out = MemSink::open(rt.alloc(), 8192)?;
             out.fail_call(call, added)?;
-            assert_eq!(rt; report_to(&journal, true, &mut out), Err(SinkFault));
+            assert_eq!(rt; report_to(&journal, true, false, &mut out), Err(SinkFault));
             assert!(rt; whole.bytes().starts_with(out.bytes()));
             assert!(rt; out.bytes().len() < whole.bytes().len());
         }
     }
     let mut out = MemSink::open(rt.alloc(), 8192)?;
     out.fail_call(32, 1)?;
-    assert_eq!(rt; report_to(&journal, true, &mut out), Ok(()));
+    assert_eq!(rt; report_to(&journal, true, false, &mut out), Ok(()));
     Ok(())
 }

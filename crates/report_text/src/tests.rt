@@ -93,7 +93,7 @@ fn a_report_after_three_steps(rt: HostRuntime) -> Result<(), Fail> {
         end: Ended::AllRun,
     };
     let mut out = MemSink::open(rt.alloc(), 4096)?;
-    assert_eq!(rt; print_report(&parts, false, &mut out), Ok(()));
+    assert_eq!(rt; print_report(&parts, false, false, &mut out), Ok(()));
     assert_eq!(rt; out.bytes(), AFTER_THREE_STEPS.as_bytes());
     Ok(())
 }
@@ -154,7 +154,7 @@ fn each_register_stands_behind_its_name(rt: HostRuntime) -> Result<(), Fail> {
         end: Ended::AllRun,
     };
     let mut out = MemSink::open(rt.alloc(), 8192)?;
-    assert_eq!(rt; print_report(&parts, false, &mut out), Ok(()));
+    assert_eq!(rt; print_report(&parts, false, false, &mut out), Ok(()));
     assert!(rt; out.bytes().ends_with(SECOND_THREAD.as_bytes()));
     Ok(())
 }
@@ -191,7 +191,7 @@ fn each_end_has_its_name(rt: HostRuntime) -> Result<(), Fail> {
             end,
         };
         let mut out = MemSink::open(rt.alloc(), 8192)?;
-        assert_eq!(rt; print_report(&parts, false, &mut out), Ok(()));
+        assert_eq!(rt; print_report(&parts, false, false, &mut out), Ok(()));
         assert!(rt; out.bytes().starts_with(want.as_bytes()));
     }
     Ok(())
@@ -235,7 +235,7 @@ fn each_piece_is_one_whole_line(rt: HostRuntime) -> Result<(), Fail> {
         pieces: 0,
         whole_lines: 0,
     };
-    assert_eq!(rt; print_report(&parts, false, &mut out), Ok(()));
+    assert_eq!(rt; print_report(&parts, false, false, &mut out), Ok(()));
     assert_eq!(rt; out.pieces, 4 + 4 * 20 + 1);
     assert_eq!(rt; out.whole_lines, out.pieces);
     Ok(())
@@ -251,7 +251,7 @@ fn a_fault_leaves_a_front_of_the_report(rt: HostRuntime) -> Result<(), Fail> {
         end: Ended::AllRun,
     };
     let mut out = MemSink::open(rt.alloc(), 24)?;
-    assert_eq!(rt; print_report(&parts, false, &mut out), Err(SinkFault));
+    assert_eq!(rt; print_report(&parts, false, false, &mut out), Err(SinkFault));
     assert_eq!(rt; out.bytes(), b"radix 1\nend all\nsteps 0\n".as_slice());
     Ok(())
 }

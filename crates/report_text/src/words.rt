@@ -26,6 +26,24 @@ pub(crate) fn push_decimal(line: &mut Line, value: u64)
     line.push_number(value);
 }
 
+/// Adds a number that has at most ten digits in decimal behind a space.
+pub(crate) fn push_short(line: &mut Line, value: u32)
+    requires { length line.old + 21 ≤ 512 }
+    ensures text { line.new ≡ line.old ++ codes " " ++ decimal value }
+    ensures len { length line.new ≤ length line.old + 11 }
+{
+    push_decimal(line, u64::from(value));
+}
+
+/// Adds a number that has at most three digits in decimal behind a space.
+pub(crate) fn push_byte(line: &mut Line, value: u8)
+    requires { length line.old + 21 ≤ 512 }
+    ensures text { line.new ≡ line.old ++ codes " " ++ decimal value }
+    ensures len { length line.new ≤ length line.old + 4 }
+{
+    push_decimal(line, u64::from(value));
+}
+
 /// Adds the lowest `width` digits of a number in base 16 behind a space.
 pub(crate) fn push_hex(line: &mut Line, width: u8, value: u64)
     requires { length line.old + width + 1 ≤ 512 }

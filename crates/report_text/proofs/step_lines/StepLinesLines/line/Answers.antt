@@ -1,9 +1,10 @@
 use Rattle.std.proofs.Common.{◌∙◌, ap, sym, Some}
-use Rattle.report_text.proofs.WordLemmas.{get-step_lines, no_step_past}
+use Rattle.report_text.specs.StepText.{step_line}
+use Rattle.report_text.proofs.WordLemmas.{get-numbered, no_row_past}
 use Rattle.report_text.proofs.step_lines.StepLinesLines.line.Goals as goal
 
 pub returns-in-Some : goal.returns-in-Some
-returns-in-Some c = get-step_lines _ _ _ (sym c.in-Some.ensures) ∙ ap Some (sym c.fill_step_line.ensures)
+returns-in-Some c = get-numbered step_line _ _ _ (sym c.in-Some.ensures) ∙ ap Some (sym c.fill_step_line.ensures)
 
 pub returns-in_default : goal.returns-in_default
-returns-in_default c = absurd (no_step_past _ _ c.requires (sym c.in_default.ensures))
+returns-in_default c = absurd (no_row_past step_line _ _ c.requires (sym c.in_default.ensures))

@@ -1,0 +1,7 @@
+use Rattle.std.proofs.Common.{arith, ap, length}
+use Rattle.report_text.proofs.WordLemmas.{length-number}
+use Rattle.report_text.proofs.words.push_short.Goals as goal
+
+pub returns-clause-len : goal.returns-clause-len
+returns-clause-len c =
+    omega (arith, ap length c.push_decimal.ensures.text, length-number c.args.line.now 10 c.from.result (omega arith) (omega (arith, c.from.ensures)) (omega (arith, c.from.ensures)))
