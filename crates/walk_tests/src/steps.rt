@@ -11,7 +11,7 @@ const STEP: StepRow = StepRow {
     thread: 0,
     cia: 0,
     word: None,
-    end: StepEnd::Stopped(StopName::NoTranslation, 0),
+    end: StepEnd::Stopped(StopName::HashedPartition, 0),
     uses: [Use::Unused; 3],
 };
 
