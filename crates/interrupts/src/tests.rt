@@ -1,4 +1,5 @@
 mod deliveries;
+mod storage;
 
 use super::*;
 use thread_regs::{Thread, Threads};

@@ -56,3 +56,4 @@ pub mod ExamplesUses
 pub mod ExamplesPlain
 pub mod ExamplesKept
 pub mod ExamplesEvents
+pub mod ExamplesConfined

@@ -191,7 +191,7 @@ fn hsrr_rows() -> [Row; 5] {
 }
 
 /// A thread at 0x10000 in this state.
-fn thread_in(state: u64) -> Thread {
+pub fn thread_in(state: u64) -> Thread {
     Thread {
         msr: Msr(state),
         srr0: 0x51,
@@ -209,7 +209,7 @@ fn thread_in(state: u64) -> Thread {
 }
 
 /// The next address, the machine state, and SRR0, SRR1, HSRR0 and HSRR1.
-fn main_registers(thread: &Thread) -> [u64; 6] {
+pub fn main_registers(thread: &Thread) -> [u64; 6] {
     [
         thread.nia,
         thread.msr().0,
@@ -231,7 +231,7 @@ fn wanted(row: Row, i: usize) -> [u64; 6]
     }
 }
 
-fn details(thread: &Thread) -> [u64; 6] {
+pub fn details(thread: &Thread) -> [u64; 6] {
     [
         thread.dar,
         u64::from(thread.dsisr),

@@ -1,0 +1,3 @@
+pub mod NestTakes
+pub mod QuadrantJoins
+pub mod SixCauses

@@ -1,0 +1,4 @@
+pub mod Adds
+pub mod Causes
+pub mod Ranges
+pub mod Targets

@@ -1,0 +1,4 @@
+pub mod AddedLemmas
+pub mod Joins
+pub mod PartTakes
+pub mod RealAddress

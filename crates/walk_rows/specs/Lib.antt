@@ -1,0 +1,4 @@
+pub mod Added
+pub mod FreshAnswers
+pub mod Laws
+pub mod OwnFill
