@@ -226,8 +226,16 @@ s 3 0 ran 000000000001000c e8a4fffc R000000000001000c R000000000001fffc R0000000
 w 2 0 000000000001fffc 4 0000000000000000 00000000ffffffff
 w 2 0 0000000000020000 4 0000000000000000 00000000ffffffff
 .$line"
+for words in '--trace --walks' '--walks --trace'; do
+    "$program" run store.elf first.sched 4 $words >both 2>err || fail "a run with $words" 0 $?
+    cmp -s both out || fail "a run without walks, with $words" "$(cat out)" "$(cat both)"
+    count=$((count + 1))
+done
 expect_usage 5 "unexpected '--trace'" run store.elf first.sched 4 --trace --trace
 expect_usage 3 "N is '--trace', and must be 0 to 1048576 in decimal, before all options" run store.elf first.sched --trace 4
+expect_usage 5 "unexpected '--walks'" run store.elf first.sched 3 --walks --walks
+expect_usage 3 "N is '--walks', and must be 0 to 1048576 in decimal, before all options" run store.elf first.sched --walks 3
+expect_usage 2 "unexpected '--walks'" dis first.elf --walks
 "$top/tools/make_image.sh" 0x10000 0x10000 0x3C801000 0x98640000 0x4BFFFFFC >full.elf
 "$program" run full.elf first.sched 1048576 >out 2>err
 [ $? -eq 14 ] || fail 'exit status of a full journal' 14 other

@@ -42,7 +42,7 @@ pub fn text_of(information: Information) -> &'static str {
 pub const HELP: &str = "\
 radix: a 64-bit Power ISA 3.0B machine, with an assembler and a lister of its programs.
 
-usage: radix run IMAGE SCHEDULE N [--guest FILE@HEX].. [--trace]
+usage: radix run IMAGE SCHEDULE N [--guest FILE@HEX].. [--trace] [--walks]
        radix asm SOURCE
        radix dis IMAGE
        radix --help | --version
@@ -59,6 +59,7 @@ usage: radix run IMAGE SCHEDULE N [--guest FILE@HEX].. [--trace]
 
   --guest    load FILE as it is at the address HEX, 1 to 16 hexadecimal digits; at most four times
   --trace    print each step, each change of RAM and each access of a device
+  --walks    print each table word that a translation read, and each entry that it left
   --help     print this text
   --version  print the version
 

@@ -9,17 +9,22 @@ use Rattle.radix_top.specs.declared.command.Command.{Command}
 use Rattle.radix_top.specs.declared.command.Command.TheVariants.{Run}
 use Rattle.radix_top.specs.declared.command.Options.{Options}
 use Rattle.radix_top.specs.declared.guest_words.GuestWord.{GuestWord}
-use Rattle.radix_top.specs.Words.{Text, word_at, last_at, guest, cut_at, guest_of, asks_for_trace, announces_guest, with_trace, with_guest, options_of, no_options, or_fault, ◌>>=◌, count_of, run_of, IsCut, AreCut, IsWellNamed}
+use Rattle.radix_top.specs.Words.{Text, word_at, last_at, guest, cut_at, guest_of, asks_for_trace, asks_for_walks, announces_guest, with_trace, with_walks, with_guest, options_of, no_options, or_fault, ◌>>=◌, count_of, run_of, IsCut, AreCut, IsWellNamed}
 
 -- a trace is asked for, whatever stands behind
 pub options_trace : (place : ℕ) (before : Options) (w : Text) (rest : List Text) → asks_for_trace before w ≡ true → options_of place before (w ∷ rest) ≡ options_of (place + 1) (with_trace before) rest
 options_trace place before w [] asks = rw asks refl
 options_trace place before w (v ∷ ws) asks = rw asks refl
 
--- neither a trace nor a guest is asked for
-pub options_other : (place : ℕ) (before : Options) (w : Text) (rest : List Text) → asks_for_trace before w ≡ false → announces_guest before w ≡ false → options_of place before (w ∷ rest) ≡ Err place
-options_other place before w [] asks none = rw (asks, none) refl
-options_other place before w (v ∷ ws) asks none = rw (asks, none) refl
+-- walks are asked for, whatever stands behind
+pub options_walks : (place : ℕ) (before : Options) (w : Text) (rest : List Text) → asks_for_trace before w ≡ false → asks_for_walks before w ≡ true → options_of place before (w ∷ rest) ≡ options_of (place + 1) (with_walks before) rest
+options_walks place before w [] no asks = rw (no, asks) refl
+options_walks place before w (v ∷ ws) no asks = rw (no, asks) refl
+
+-- neither a trace nor walks nor a guest is asked for
+pub options_other : (place : ℕ) (before : Options) (w : Text) (rest : List Text) → asks_for_trace before w ≡ false → asks_for_walks before w ≡ false → announces_guest before w ≡ false → options_of place before (w ∷ rest) ≡ Err place
+options_other place before w [] asks walks none = rw (asks, walks, none) refl
+options_other place before w (v ∷ ws) asks walks none = rw (asks, walks, none) refl
 
 same_byte : (a b : ℕ) → eqb a b ≡ true → a ≡ b
 same_byte a b e = grind (arith, nat_tests)
@@ -72,20 +77,22 @@ next_place front w place there = omega (arith, there, length-append front (w ∷
 -- guests of options are cut, where the words of the options stand behind others
 options_cut : (words front ws : List Text) (place : ℕ) (before options : Options) → words ≡ front ++ ws → place ≡ length front → AreCut words before.guests → options_of place before ws ≡ Ok options → AreCut words options.guests
 options_cut words front [] place before options all there cut e = let same : before ≡ options = cc in subst (λ (o : Options). AreCut words o.guests) same cut
-options_cut words front (w ∷ []) place before options all there cut e = by (asks_for_trace before w) (announces_guest before w) e
+options_cut words front (w ∷ []) place before options all there cut e = by (asks_for_trace before w) (asks_for_walks before w) (announces_guest before w) e
   where
-    by : (t u : Bool) → cond t (Ok (with_trace before)) (cond u (Err (place + 1)) (Err place)) ≡ Ok options → AreCut words options.guests
-    by true u f = let same : with_trace before ≡ options = cc in subst (λ (o : Options). AreCut words o.guests) same cut
-    by false true f = cc
-    by false false f = cc
+    by : (t s u : Bool) → cond t (Ok (with_trace before)) (cond s (Ok (with_walks before)) (cond u (Err (place + 1)) (Err place))) ≡ Ok options → AreCut words options.guests
+    by true s u f = let same : with_trace before ≡ options = cc in subst (λ (o : Options). AreCut words o.guests) same cut
+    by false true u f = let same : with_walks before ≡ options = cc in subst (λ (o : Options). AreCut words o.guests) same cut
+    by false false true f = cc
+    by false false false f = cc
 options_cut words front (w ∷ v ∷ ws) place before options all there cut e =
     let first : words ≡ (front ++ w ∷ []) ++ v ∷ ws = all ∙ sym (one_more front w (v ∷ ws)) in
     let second : words ≡ ((front ++ w ∷ []) ++ v ∷ []) ++ ws = first ∙ sym (one_more (front ++ w ∷ []) v ws) in
     let next = next_place front w place there in
     let after = next_place (front ++ w ∷ []) v (place + 1) next in
     let two : place + 1 + 1 ≡ place + 2 = omega arith in
-    by (asks_for_trace before w) (announces_guest before w)
+    by (asks_for_trace before w) (asks_for_walks before w) (announces_guest before w)
     (λ f. options_cut words (front ++ w ∷ []) (v ∷ ws) (place + 1) (with_trace before) options first next cut f)
+    (λ f. options_cut words (front ++ w ∷ []) (v ∷ ws) (place + 1) (with_walks before) options first next cut f)
     (λ g is f. options_cut words ((front ++ w ∷ []) ++ v ∷ []) ws (place + 2) (with_guest before g) options second (sym two ∙ after)
     (are_cut-push words before.guests g cut (subst (λ (all : List Text). IsCut all g) (sym first) (is_cut (front ++ w ∷ []) v ws (place + 1) g next is))) f)
     e
@@ -95,12 +102,14 @@ options_cut words front (w ∷ v ∷ ws) place before options all there cut e =
     guests more None is f = cc
     guests more (Some g) is f = more g is f
 
-    by : (t u : Bool) → (options_of (place + 1) (with_trace before) (v ∷ ws) ≡ Ok options → AreCut words options.guests)
+    by : (t s u : Bool) → (options_of (place + 1) (with_trace before) (v ∷ ws) ≡ Ok options → AreCut words options.guests)
+        → (options_of (place + 1) (with_walks before) (v ∷ ws) ≡ Ok options → AreCut words options.guests)
         → ((g : GuestWord) → guest_of (place + 1) v ≡ Some g → options_of (place + 2) (with_guest before g) ws ≡ Ok options → AreCut words options.guests)
-        → cond t (options_of (place + 1) (with_trace before) (v ∷ ws)) (cond u (or_fault (guest_of (place + 1) v) (place + 1) >>= (λ g. options_of (place + 2) (with_guest before g) ws)) (Err place)) ≡ Ok options → AreCut words options.guests
-    by true u trace more f = trace f
-    by false true trace more f = guests more (guest_of (place + 1) v) refl f
-    by false false trace more f = cc
+        → cond t (options_of (place + 1) (with_trace before) (v ∷ ws)) (cond s (options_of (place + 1) (with_walks before) (v ∷ ws)) (cond u (or_fault (guest_of (place + 1) v) (place + 1) >>= (λ g. options_of (place + 2) (with_guest before g) ws)) (Err place))) ≡ Ok options → AreCut words options.guests
+    by true s u trace walks more f = trace f
+    by false true u trace walks more f = walks f
+    by false false true trace walks more f = guests more (guest_of (place + 1) v) refl f
+    by false false false trace walks more f = cc
 
 -- guests of a run's options are cut
 pub run_cut : (run image schedule count : Text) (more : List Text) (options : Options) → options_of 4 no_options more ≡ Ok options → AreCut (run ∷ image ∷ schedule ∷ count ∷ more) options.guests
@@ -112,18 +121,24 @@ pub trace_read : (place : ℕ) (before : Options) (words : List Text) (w : Text)
 trace_read place before [] w some is asks = absurd (omega arith)
 trace_read place before (v ∷ vs) w some is asks = ap (options_of (place + 1) (with_trace before)) (take_rest (v ∷ vs) 1) ∙ sym (options_trace place before v vs (rw is at asks))
 
+-- a word that asks for walks was read
+pub walks_read : (place : ℕ) (before : Options) (words : List Text) (w : Text) → 0 < length words → w ≡ get_or words 0 w → asks_for_trace before w ≡ false → asks_for_walks before w ≡ true
+    → options_of (place + 1) (with_walks before) (take (length words - 1) (drop 1 words)) ≡ options_of place before words
+walks_read place before [] w some is no asks = absurd (omega arith)
+walks_read place before (v ∷ vs) w some is no asks = ap (options_of (place + 1) (with_walks before)) (take_rest (v ∷ vs) 1) ∙ sym (options_walks place before v vs (rw is at no) (rw is at asks))
+
 -- a word that announces a guest was read, and the guest's word
 pub guest_read : (place : ℕ) (before : Options) (words rest : List Text) (w v : Text) (g : GuestWord) → 0 < length words → w ≡ get_or words 0 w → rest ≡ take (length words - 1) (drop 1 words) → 0 < length rest → v ≡ get_or rest 0 v
-    → asks_for_trace before w ≡ false → announces_guest before w ≡ true → guest_of (place + 1) v ≡ Some g
+    → asks_for_trace before w ≡ false → asks_for_walks before w ≡ false → announces_guest before w ≡ true → guest_of (place + 1) v ≡ Some g
     → options_of (place + 2) (with_guest before g) (take (length rest - 1) (drop 1 rest)) ≡ options_of place before words
-guest_read place before [] rest w v g some is all more next asks announces cut = absurd (omega arith)
-guest_read place before (x ∷ []) rest w v g some is all more next asks announces cut = absurd (omega (arith, ap length all))
-guest_read place before (x ∷ y ∷ ys) rest w v g some is all more next asks announces cut =
+guest_read place before [] rest w v g some is all more next asks walks announces cut = absurd (omega arith)
+guest_read place before (x ∷ []) rest w v g some is all more next asks walks announces cut = absurd (omega (arith, ap length all))
+guest_read place before (x ∷ y ∷ ys) rest w v g some is all more next asks walks announces cut =
     let behind : rest ≡ y ∷ ys = all ∙ take_rest (x ∷ y ∷ ys) 1 in
     let first : w ≡ x = is in
     let second : v ≡ y = next ∙ ap (λ (l : List Text). get_or l 0 v) behind in
     let more_behind : take (length rest - 1) (drop 1 rest) ≡ ys = ap (λ (l : List Text). take (length l - 1) (drop 1 l)) behind ∙ take_rest (y ∷ ys) 1 in
-    rw (more_behind, ← first, asks, announces, ← second, cut) refl
+    rw (more_behind, ← first, asks, walks, announces, ← second, cut) refl
 
 few_steps : (w : Text) (n : ℕ) → count_of w ≡ Some n → n ≤ 1048576
 few_steps w n e = by (number_of (string_bytes w)) e

@@ -59,7 +59,7 @@ pub record IsRunOf {D : Type 0} (m : FilesSeen) (words : List Text) (d : Devices
 
 -- the report of a machine whose run had this end, as the options ask for it
 abbrev pub report_of : {D : Type 0} → MachineView D → Ended → Options → List ℕ
-report_of machine end options = report end machine.threads machine.journal.rows (record { trace = options.trace })
+report_of machine end options = report end machine.threads machine.journal.rows (record { trace = options.trace; walks = options.walks })
 
 -- the run that the words ask for had this end, and its machine is in the bench, with all devices
 pub record WasRun {D : Type 0} (m : FilesSeen) (words : List Text) (d : DevicesSeen D) (left : BenchSeen D) (end : Ended) : Type 0 where

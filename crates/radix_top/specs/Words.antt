@@ -53,36 +53,45 @@ guest_of place w = cut_at place (string_bytes w) (last_at (string_bytes w) (leng
 abbrev pub guest_name : List Text → GuestWord → List ℕ
 guest_name words g = take g.name_len (word_at words g.place)
 
-abbrev pub options_with : Bool → List GuestWord → Options
-options_with trace guests = record { trace = trace; guests = guests }
+abbrev pub options_with : Bool → Bool → List GuestWord → Options
+options_with trace walks guests = record { trace = trace; walks = walks; guests = guests }
 
 -- a command without options
 abbrev pub no_options : Options
-no_options = options_with false []
+no_options = options_with false false []
 
 -- the word asks for a trace, which no word before it did
 abbrev pub asks_for_trace : Options → Text → Bool
 asks_for_trace before w = is_word w (codes "--trace") && not before.trace
+
+-- the word asks for the walks, which no word before it did
+abbrev pub asks_for_walks : Options → Text → Bool
+asks_for_walks before w = is_word w (codes "--walks") && not before.walks
 
 -- the word announces a guest, and at most three are there
 abbrev pub announces_guest : Options → Text → Bool
 announces_guest before w = is_word w (codes "--guest") && nat_lt (length before.guests) 4
 
 abbrev pub with_trace : Options → Options
-with_trace before = options_with true before.guests
+with_trace before = options_with true before.walks before.guests
+
+abbrev pub with_walks : Options → Options
+with_walks before = options_with before.trace true before.guests
 
 abbrev pub with_guest : Options → GuestWord → Options
-with_guest before g = options_with before.trace (before.guests ++ g ∷ [])
+with_guest before g = options_with before.trace before.walks (before.guests ++ g ∷ [])
 
 -- the options that words are, the first of which has this number, behind those that were there before
 abbrev pub options_of : ℕ → Options → List Text → Result Options ℕ
 options_of place before [] = Ok before
 options_of place before (w ∷ []) =
     if asks_for_trace before w then Ok (with_trace before)
+    else if asks_for_walks before w then Ok (with_walks before)
     else if announces_guest before w then Err (place + 1)
     else Err place
 options_of place before (w ∷ v ∷ ws) =
     if asks_for_trace before w then options_of (place + 1) (with_trace before) (v ∷ ws)
+    else if asks_for_walks before w then options_of (place + 1) (with_walks before) (v ∷ ws)
     else if announces_guest before w then (or_fault (guest_of (place + 1) v) (place + 1) >>= λ g. options_of (place + 2) (with_guest before g) ws)
     else Err place
 

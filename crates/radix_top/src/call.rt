@@ -60,7 +60,7 @@ fn run_ready<D: Device, K: Sink>(
         journal: machine.journal(),
         end: ended,
     };
-    match print_report(&parts, ready.options.trace, out) {
+    match print_report(&parts, ready.options.trace, ready.options.walks, out) {
         Ok(()) => ended_status(ended),
         Err(_) => Status::WriteFault,
     }
@@ -124,9 +124,9 @@ fn answer_call<F: Files, K: Sink>(
 ///
 /// `run IMAGE SCHEDULE N` runs the image for N steps by the schedule, on a machine with 16 MiB of RAM and the bench's devices,
 /// which is left in the bench, and prints its report. Behind N may stand `--trace`, which prints its steps, writes and device
-/// accesses too, and at most four times `--guest FILE@HEX`, which loads the file at the address HEX. `asm SOURCE` writes the
-/// ELF file of the image that the source is, and `dis IMAGE` prints the image's words as text; both leave the bench as it is.
-/// A call that is refused before it opens a machine prints one line, and leaves the devices in the bench.
+/// accesses too, `--walks`, which prints the words of tables that its walks read and the entries that they left, and at most
+/// four times `--guest FILE@HEX`, which loads the file at the address HEX. `asm SOURCE` writes the ELF file of the image that
+/// the source is, and `dis IMAGE` prints the image's words as text; both leave the bench as it is. A call that is refused before it opens a machine prints one line, and leaves the devices in the bench.
 pub fn radix_call<F: Files, K: Sink>(
     alloc: Global,
     words: &[String],

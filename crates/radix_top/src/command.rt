@@ -19,6 +19,8 @@ const MOST_GUESTS: usize = 4;
 pub struct Options {
     /// `--trace`: its steps, writes and device accesses.
     pub trace: bool,
+    /// `--walks`: the words of tables that its walks read, and the entries that they left.
+    pub walks: bool,
     /// `--guest FILE@HEX`, at most four times: files that are loaded as they are.
     pub guests: GuestWords,
 }
@@ -65,6 +67,7 @@ fn read_run(words: &[String]) -> Result<Command, usize>
             };
             let none = Options {
                 trace: false,
+                walks: false,
                 guests: GuestWords::new(),
             };
             let options = read_options(4, none, more)?;
@@ -94,6 +97,13 @@ fn asks_for_trace(before: &Options, word: &String) -> bool
     word.as_str() == "--trace" && !before.trace
 }
 
+/// Whether a word asks for the walks, which no word before it did.
+fn asks_for_walks(before: &Options, word: &String) -> bool
+    ensures { result ≡ said.asks_for_walks before.now word.now }
+{
+    word.as_str() == "--walks" && !before.walks
+}
+
 /// Whether a word announces a guest, and at most three are there.
 fn announces_guest(before: &Options, word: &String) -> bool
     ensures { result ≡ said.announces_guest before.now word.now }
@@ -107,6 +117,18 @@ fn with_trace(before: Options) -> Options
 {
     Options {
         trace: true,
+        walks: before.walks,
+        guests: before.guests,
+    }
+}
+
+/// The options with the walks.
+fn with_walks(before: Options) -> Options
+    ensures { result ≡ said.with_walks before }
+{
+    Options {
+        trace: before.trace,
+        walks: true,
         guests: before.guests,
     }
 }
@@ -132,6 +154,9 @@ fn read_options(place: usize, before: Options, words: &[String]) -> Result<Optio
         [word, rest @ ..] => {
             if asks_for_trace(&before, word) {
                 return read_options(place + 1, with_trace(before), rest);
+            }
+            if asks_for_walks(&before, word) {
+                return read_options(place + 1, with_walks(before), rest);
             }
             if announces_guest(&before, word) {
                 return match rest {

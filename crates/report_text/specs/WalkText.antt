@@ -1,5 +1,5 @@
 -- Read rows and fill rows, as text.
-use Rattle.std.specs.Prelude.{ℕ, List, [], ◌∷◌, ◌++◌, codes, map}
+use Rattle.std.specs.Prelude.{ℕ, List, [], ◌∷◌, codes, map}
 use Rattle.std.specs.Fmt.{decimal}
 use Rattle.line_text.specs.Text.{hex}
 use Rattle.journal_core.specs.declared.rows.Role.{Role}

@@ -18,13 +18,13 @@ fn place(alloc: Global, list: &[&str]) -> Result<Option<usize>, AllocError> {
     Ok(read_command(&words).err())
 }
 
-/// The count of the run that a command line is, whether it has a trace, and how many guests it loads.
-fn run_of(alloc: Global, list: &[&str]) -> Result<Option<(u32, bool, usize)>, AllocError> {
+/// The count of the run that a command line is, whether it has a trace and walks, and how many guests it loads.
+fn run_of(alloc: Global, list: &[&str]) -> Result<Option<(u32, bool, bool, usize)>, AllocError> {
     let words = words(alloc, list)?;
     match read_command(&words) {
         Ok(Command::Run { count, options }) => {
             let guests = options.guests.as_slice().len();
-            Ok(Some((count, options.trace, guests)))
+            Ok(Some((count, options.trace, options.walks, guests)))
         }
         _ => Ok(None),
     }
@@ -32,15 +32,23 @@ fn run_of(alloc: Global, list: &[&str]) -> Result<Option<(u32, bool, usize)>, Al
 
 #[test]
 fn a_run_has_its_count_and_its_options(rt: HostRuntime) -> Result<(), Fail> {
-    let lines: [(&[&str], (u32, bool, usize)); 5] = [
-        (&["run", "a", "b", "1048576"], (1_048_576, false, 0)),
-        (&["run", "a", "b", "0", "--trace"], (0, true, 0)),
-        (&["run", "a", "b", "3", "--guest", "g@20000"], (3, false, 1)),
+    let lines: [(&[&str], (u32, bool, bool, usize)); 8] = [
+        (&["run", "a", "b", "1048576"], (1_048_576, false, false, 0)),
+        (&["run", "a", "b", "0", "--trace"], (0, true, false, 0)),
+        (&["run", "a", "b", "0", "--walks"], (0, false, true, 0)),
+        (&["run", "a", "b", "3", "--trace", "--walks"], (3, true, true, 0)),
+        (&["run", "a", "b", "3", "--guest", "g@20000"], (3, false, false, 1)),
         (
             &[
                 "run", "a", "b", "3", "--guest", "g@0", "--trace", "--guest", "g@1",
             ],
-            (3, true, 2),
+            (3, true, false, 2),
+        ),
+        (
+            &[
+                "run", "a", "b", "3", "--walks", "--guest", "g@0", "--trace",
+            ],
+            (3, true, true, 1),
         ),
         (
             &[
@@ -57,7 +65,7 @@ fn a_run_has_its_count_and_its_options(rt: HostRuntime) -> Result<(), Fail> {
                 "--guest",
                 "g@0123456789abcDEF",
             ],
-            (3, false, 4),
+            (3, false, false, 4),
         ),
     ];
     for (line, run) in lines {
@@ -68,7 +76,7 @@ fn a_run_has_its_count_and_its_options(rt: HostRuntime) -> Result<(), Fail> {
 
 #[test]
 fn wrong_and_missing_words_have_their_numbers(rt: HostRuntime) -> Result<(), Fail> {
-    let lines: [(&[&str], usize); 29] = [
+    let lines: [(&[&str], usize); 32] = [
         (&[], 0),
         (&[""], 0),
         (&["Run"], 0),
@@ -97,7 +105,10 @@ fn wrong_and_missing_words_have_their_numbers(rt: HostRuntime) -> Result<(), Fai
         (&["run", "a", "b", "3", "--trace", "--trace"], 5),
         (&["run", "a", "b", "3", "--trac"], 4),
         (&["run", "a", "b", "--trace", "3"], 3),
-        (&["run", "a", "b", "3", "--trace", "--walks"], 5),
+        (&["run", "a", "b", "3", "--walks", "--walks"], 5),
+        (&["run", "a", "b", "--walks", "3"], 3),
+        (&["run", "a", "b", "3", "--walks", "--trace", "--walks"], 6),
+        (&["run", "a", "b", "3", "--walk"], 4),
     ];
     for (list, wrong) in lines {
         assert_eq!(rt; place(rt.alloc(), list)?, Some(wrong));
