@@ -152,6 +152,7 @@ steps_to chooses related windows number threads threads' old new e stays perform
   outcome = performed.carries.ended ∙ ap (λ (th : Thread). end_with performed.carries.carried.devices (end_of (step_outcome th (windows old.port) old.ram performed.founds (answer_in performed.carries.carried.devices)))) thread;
   kept = λ begin made ready. record {
     rule = rule_is chooses related windows number threads threads' old new e performed dated thread begin made ready inside room most;
+    answers = refl;
     state = next_is chooses related windows number threads threads' old new e performed dated thread begin made ready threads_are;
     readings = readings_are chooses related windows number threads threads' old new e performed dated thread begin made ready;
   };
