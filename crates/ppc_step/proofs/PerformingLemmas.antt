@@ -1,5 +1,5 @@
 -- A step from its fetch and what comes behind it.
-use Rattle.std.proofs.Common.{◌≡◌, ℕ, ◌+◌, ◌≤◌, false, List, [], ◌∷◌, ◌++◌, length, Option, Some, None, arith, ap, sym, ◌∙◌, refl, subst, length-append, append_assoc, append-nil}
+use Rattle.std.proofs.Common.{◌≡◌, ℕ, ◌+◌, ◌≤◌, true, false, List, [], ◌∷◌, ◌++◌, length, Option, Some, None, arith, ap, sym, ◌∙◌, refl, subst, length-append, append_assoc, append-nil}
 use Rattle.std.specs.List.{AllByRecursion}
 use Rattle.journal_core.specs.declared.asks.Ask.{Ask}
 use Rattle.journal_core.specs.declared.asks.Found.{Found}
@@ -9,7 +9,9 @@ use Rattle.journal_core.specs.declared.rows.ReadRow.{ReadRow}
 use Rattle.journal_core.specs.declared.rows.FillRow.{FillRow}
 use Rattle.journal_core.specs.declared.rows.Use.{Use}
 use Rattle.journal_core.specs.declared.rows.Use.TheVariants.{Unused}
+use Rattle.journal_core.specs.declared.rows.StopName.TheVariants.{GuestZero}
 use Rattle.journal_core.specs.declared.rows.StepEnd.{StepEnd}
+use Rattle.journal_core.specs.declared.rows.StepEnd.TheVariants.{Stopped}
 use Rattle.journal_core.specs.Past.{word_in}
 use Rattle.journal_core.specs.Rows.{JournalView}
 use Rattle.journal_core.specs.Standing.{AreNamed}
@@ -18,7 +20,7 @@ use Rattle.journal_core.specs.Answers.{IsAnswer, AreAnswered, use_of, uses_of}
 use Rattle.journal_core.specs.Translating.{AreTrue, OnlyAdds, GoesOn, IsWithin, Stays}
 use Rattle.walk_laws.proofs.AnswersStay.{answer_goes_on}
 use Rattle.walk_laws.proofs.TrueAgain.{true_again}
-use Rattle.form_outcomes.specs.Outcomes.{Outcome, end_of}
+use Rattle.form_outcomes.specs.Outcomes.{Outcome, Stops, end_of}
 use Rattle.interrupts.specs.PendingCauses.{pending_cause}
 use Rattle.ppc_bus.specs.Windows.{Window}
 use Rattle.thread_regs.specs.declared.registers.Thread.{Thread}
@@ -182,4 +184,31 @@ performs_word chooses related windows number moment word at t ram port ask old m
           (λ answer. sym ((ap (λ p. outcome_unless p (is_guest_zero t) (found_outcome t (windows port) ram (Real at used ∷ h.founds) answer)) none ∙ ap (λ z. outcome_unless None z (found_outcome t (windows port) ram (Real at used ∷ h.founds) answer)) above) ∙ ap (λ w. fetched_outcome t at w (around (windows port) ram h.founds answer)) word_is)) h.carries);
       word = ap (λ (x : Ending). x.word) e_is ∙ sym ((ap (λ p. word_unless p (is_guest_zero t) ram (Real at used ∷ h.founds)) none ∙ ap (λ z. word_unless None z ram (Real at used ∷ h.founds)) above) ∙ word_is);
       uses = ap (λ (x : Ending). x.uses) e_is ∙ (ap (λ (u : Use). used ∷ u ∷ out.second ∷ []) h.first ∙ (ap (λ (u : Use). used ∷ first_use h.founds ∷ u ∷ []) h.second ∙ uses_are (Real at used) h.founds));
+    }
+
+-- ---- guests with partition number 0
+
+no_rows_added : (j : JournalView) → j ≡ record j { rows = record j.rows { reads = j.rows.reads ++ []; fills = j.rows.fills ++ [] } }
+no_rows_added j =
+    ap (λ xs. record j { rows = record j.rows { reads = xs; fills = j.rows.fills } }) (sym (append-nil j.rows.reads)) ∙ ap (λ xs. record j { rows = record j.rows { reads = j.rows.reads ++ []; fills = xs } }) (sym (append-nil j.rows.fills))
+
+-- a step that stops before its fetch, since its guest has partition number 0
+pub performs_guest_zero : {P : Type 0} (chooses : Query → Found → Mark → Type 0) (related : P → DeviceRow → P → Type 0) (windows : P → List (Option Window)) (number : ℕ) (t : Thread) (ram : List ℕ) (port : P) (j : JournalView) (e : Ending) →
+    pending_cause t ≡ None → is_guest_zero t ≡ true → e ≡ record { word = None; end = Stopped GuestZero 0; uses = Unused ∷ Unused ∷ Unused ∷ [] } → PerformsStep chooses related windows number (scene_of t ram port j) (scene_of t ram port j) e
+performs_guest_zero chooses related windows number t ram port j e none zero e_is =
+    let asks : step_asks t ram [] ≡ [] = ap (λ p. asks_unless_ended p (is_guest_zero t) t ram []) none ∙ ap (λ z. asks_unless_ended None z t ram []) zero in
+    record {
+      founds = [];
+      between = j;
+      answered = subst (λ xs. IsAnswered chooses 3 number ram xs j j []) (sym asks) (record {
+        adds = record { reads = []; fills = []; few_reads = omega arith; few_fills = omega arith; read_moments = tt; fill_moments = tt; rows = no_rows_added j };
+        answers = λ past stands stood. refl;
+        truth = λ past stands stood. stood;
+        chosen = λ word stands. refl;
+      });
+      carries = carries_same related windows number (λ answer. Stops GuestZero 0) (step_outcome t (windows port) ram []) (scene_of t ram port j) (scene_of t ram port j) e.end
+          (λ answer. sym (ap (λ p. outcome_unless p (is_guest_zero t) (found_outcome t (windows port) ram [] answer)) none ∙ ap (λ z. outcome_unless None z (found_outcome t (windows port) ram [] answer)) zero))
+          (carries_nothing related windows number (λ answer. Stops GuestZero 0) t ram port j e.end (ap (λ (x : Ending). x.end) e_is) refl);
+      word = ap (λ (x : Ending). x.word) e_is ∙ sym (ap (λ p. word_unless p (is_guest_zero t) ram []) none ∙ ap (λ z. word_unless None z ram []) zero);
+      uses = ap (λ (x : Ending). x.uses) e_is;
     }
