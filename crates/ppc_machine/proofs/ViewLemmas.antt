@@ -34,7 +34,7 @@ ready : {D : Type 0} (m : MachineView D) (kept : IsKept m) → IsRunning m.journ
 ready m kept running = record { run = kept.lawful.run; running = running; ram = kept.fits.last; readings = kept.readings }
 
 keeps : {D : Type 0} (related : Relation D) (old new : MachineView D) (t : ℕ) (end : StepEnd) (kept : IsKept old) → IsRunning old.journal.rows.steps → (on : StepsOn related old new t end) →
-    IsKeptStep (start_of old) kept.lawful.made old.journal.rows new.journal.rows (now_of old) (now_of new) on.steps.own
+    IsKeptStep (start_of old) kept.lawful.made old.journal.rows new.journal.rows (now_of old) (now_of new) on.steps.own on.steps.founds
 keeps related old new t end kept running on = on.steps.kept (start_of old) kept.lawful.made (ready old kept running)
 
 pub rows_of_step : {D : Type 0} (related : Relation D) (old new : MachineView D) (t : ℕ) (end : StepEnd) (on : StepsOn related old new t end) → new.journal.rows ≡ with_own old.journal.rows on.steps.own
