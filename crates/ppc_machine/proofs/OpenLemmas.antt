@@ -18,12 +18,13 @@ use Rattle.elf_image.specs.Start.{start_ram}
 use Rattle.ppc_bus.specs.declared.faults.PlugReason.{PlugReason}
 use Rattle.ppc_bus.specs.declared.slots.Slot.{Slot}
 use Rattle.ppc_bus.specs.Windows.{Window, windows_of}
+use Rattle.ppc_step.specs.Chosen.{KeepsChosen}
 use Rattle.ppc_step.specs.Rule.{KeepsRule, next_state}
 use Rattle.ppc_machine.specs.declared.opening.OpenReason.{OpenReason}
 use Rattle.ppc_machine.specs.declared.opening.OpenReason.TheVariants.{BadThreads, BadRam, BadSteps, BadPlace, Device, Memory}
 use Rattle.ppc_machine.specs.declared.plugging.PluggedOf.{PluggedOf}
 use Rattle.ppc_machine.specs.Plugging.{windows_for, slots_for, plugged_windows, first_refused}
-use Rattle.ppc_machine.specs.MachineView.{MachineView, start_of, now_of, IsKept}
+use Rattle.ppc_machine.specs.MachineView.{MachineView, MachineChoice, start_of, now_of, IsKept}
 use Rattle.ppc_machine.specs.Opening.{unless, device_refusal, place_refusal, refusal_for, IsReason, opened}
 
 -- what holds of an Ok, where an error cannot be
@@ -102,7 +103,9 @@ IsKept-opened entry count steps threads ram plugged slots journal empty reset co
     record {
       most = rw empty few;
       fits = rw empty (fits_no_rows ram bytes);
+      floor = rw empty refl;
       lawful = record { made = []; run = rw (begin, empty) (IsRun-none (KeepsRule (now_of m)) next_state (now_of m)) };
+      chosen = record { made = []; run = rw (begin, empty) (IsRun-none (KeepsChosen MachineChoice (now_of m)) next_state (now_of m)) };
       readings = rw empty tt;
     }
 

@@ -7,6 +7,7 @@ pub use Rattle.journal_core.specs.Runs
 pub use Rattle.journal_core.specs.Ends
 pub use Rattle.ppc_step.specs.States
 pub use Rattle.ppc_step.specs.Rule
+pub use Rattle.ppc_step.specs.Chosen
 pub mod Plugging
 pub mod MachineView
 pub mod Opening

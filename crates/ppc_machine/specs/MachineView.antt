@@ -1,5 +1,8 @@
 -- What contracts see of a machine, and what each machine keeps.
-use Rattle.std.specs.Prelude.{ℕ, ◌≤◌, List, length, Option}
+use Rattle.std.specs.Prelude.{ℕ, ◌≡◌, ◌≤◌, List, length, Option}
+use Rattle.journal_core.specs.declared.asks.Found.{Found}
+use Rattle.journal_core.specs.Turns.{Mark, Query}
+use Rattle.journal_core.specs.Choice.{PlainChoice}
 use Rattle.journal_core.specs.Rows.{JournalView}
 use Rattle.journal_core.specs.Past.{ram_before, past, Fits}
 use Rattle.journal_core.specs.Translating.{AreTrue}
@@ -8,6 +11,7 @@ use Rattle.ppc_bus.specs.Windows.{Window, windows_of}
 use Rattle.thread_regs.specs.declared.registers.Thread.{Thread}
 use Rattle.thread_regs.specs.Registers.{all_reset}
 use Rattle.ppc_step.specs.States.{State, state_of}
+use Rattle.ppc_step.specs.Chosen.{IsChosenRun}
 use Rattle.ppc_step.specs.Rule.{IsLawfulRun}
 
 -- the entry, the windows as they were plugged, the registers of the threads, the bytes of RAM, the slots of the bus with their
@@ -33,10 +37,20 @@ start_of m = state_of (all_reset (length m.threads) m.entry) (ram_before m.ram m
 abbrev pub IsLawful : {D : Type 0} → MachineView D → Type 0
 IsLawful m = IsLawfulRun (start_of m) m.journal.rows (now_of m)
 
--- what each machine keeps: a lawful journal, whose write rows lead from its first bytes to those of RAM, and whose readings are
+-- which answers the machine chooses: always that of the fresh walk
+abbrev pub MachineChoice : Query → Found → Mark → Type 0
+MachineChoice = PlainChoice
+
+-- and all answers in its journal were chosen so, and what they let through is confined
+abbrev pub IsChosen : {D : Type 0} → MachineView D → Type 0
+IsChosen m = IsChosenRun MachineChoice (start_of m) m.journal.rows (now_of m)
+
+-- what each machine keeps: a lawful journal whose answers were chosen, whose write rows lead from its first bytes to those of RAM, and whose readings are
 -- true
 pub record IsKept {D : Type 0} (m : MachineView D) : Type 0 where
   pub most : m.journal.reserved ≤ 1048576
   pub fits : Fits (start_of m).ram m.journal.rows.writes m.ram
+  pub floor : m.journal.floor ≡ 0
   pub lawful : IsLawful m
+  pub chosen : IsChosen m
   pub readings : AreTrue (past (start_of m).ram m.journal.rows.writes) m.journal.rows

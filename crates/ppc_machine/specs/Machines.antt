@@ -10,9 +10,8 @@ use Rattle.journal_core.specs.Ends.{ended_of, thread_of_row, Grows, stop_of}
 use Rattle.sched_text.specs.Plan.{Plan, turn}
 use Rattle.ppc_bus.specs.declared.slots.Slot.{Slot}
 use Rattle.ppc_bus.specs.Chains.{Chain}
-use Rattle.journal_core.specs.Choice.{PlainChoice}
 use Rattle.ppc_step.specs.Rule.{StepsTo}
-use Rattle.ppc_machine.specs.MachineView.{MachineView, now_of, start_of, IsLawful}
+use Rattle.ppc_machine.specs.MachineView.{MachineView, now_of, start_of, MachineChoice, IsLawful, IsChosen}
 
 -- One step of a machine that runs, where `related` says what a slot's device, a device row and the slots after it have to do with
 -- each other: the entry, the windows as plugged and the number of threads stay, and the rest is one step by the rule.
@@ -20,7 +19,7 @@ pub record StepsOn {D : Type 0} (related : List (Option (Slot D)) → DeviceRow 
   pub entry : new.entry ≡ old.entry
   pub plugged : new.plugged ≡ old.plugged
   pub count : length new.threads ≡ length old.threads
-  pub steps : StepsTo PlainChoice related old.journal new.journal old.slots new.slots (now_of old) (now_of new) t end
+  pub steps : StepsTo MachineChoice related old.journal new.journal old.slots new.slots (now_of old) (now_of new) t end
 
 -- a machine that stopped answers the same stop, and stays as it is
 abbrev pub stop_as : {D : Type 0} → Option (StopName × ℕ) → MachineView D → MachineView D → StepEnd → Type 0
@@ -44,10 +43,11 @@ pub record RunsTo {D : Type 0} (related : List (Option (Slot D)) → DeviceRow �
   -- each new step is that of the thread whose turn it was, and no old row has changed
   pub turns : (k : ℕ) → length old.journal.rows.steps ≤ k → k < length new.journal.rows.steps → thread_of_row new.journal.rows.steps k ≡ turn p k
   pub grows : Grows old.journal new.journal
-  -- the entry, the windows as plugged and the start are the machine's own, and all rows are lawful
+  -- the entry, the windows as plugged and the start are the machine's own, all rows are lawful, and all answers were chosen
   pub entry : new.entry ≡ old.entry
   pub plugged : new.plugged ≡ old.plugged
   pub start : start_of new ≡ start_of old
   pub lawful : IsLawful new
+  pub chosen : IsChosen new
   -- the devices gave what the new device rows say
   pub devices : Asks related old new

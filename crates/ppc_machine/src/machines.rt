@@ -86,7 +86,7 @@ impl<D: Device> MachineOf<D> {
     ghost use Rattle.thread_regs.specs.Registers.{thread_at};
     ghost use Rattle.ppc_bus.specs.Answers.{DeviceAnswers};
     ghost use Rattle.ppc_step.specs.Soundness.{IsSound};
-    ghost use Rattle.ppc_machine.specs.MachineView.{now_of, start_of, IsLawful};
+    ghost use Rattle.ppc_machine.specs.MachineView.{now_of, start_of, IsLawful, IsChosen};
     ghost use Rattle.ppc_machine.specs.Plugging.{windows_for};
     ghost use Rattle.ppc_machine.specs.Opening as opening;
     ghost use Rattle.ppc_machine.specs.Machines.{StepsOn, IsStopped, RunsTo};
@@ -187,6 +187,7 @@ impl<D: Device> MachineOf<D> {
         ensures row { IsRunning self.old.journal.rows.steps → StepsOn (DeviceAnswers D.list D.answers) self.old self.new thread result }
         ensures start { start_of self.new ≡ start_of self.old }
         ensures lawful { IsLawful self.new }
+        ensures chosen { IsChosen self.new }
     {
         if let Some((name, value)) = last_stop(&self.parts.journal) {
             return StepEnd::Stopped(name, value);

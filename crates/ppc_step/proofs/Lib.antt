@@ -11,3 +11,4 @@ pub mod RowsLemmas
 pub mod StateLemmas
 pub mod StepLemmas
 pub mod ThreadsLemmas
+pub mod ConfinedLemmas

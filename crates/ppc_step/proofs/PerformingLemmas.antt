@@ -1,5 +1,5 @@
 -- A step from its fetch and what comes behind it.
-use Rattle.std.proofs.Common.{◌≡◌, ℕ, ◌+◌, ◌≤◌, List, [], ◌∷◌, ◌++◌, length, Option, Some, None, arith, ap, sym, ◌∙◌, refl, subst, length-append, append_assoc, append-nil}
+use Rattle.std.proofs.Common.{◌≡◌, ℕ, ◌+◌, ◌≤◌, true, false, List, [], ◌∷◌, ◌++◌, length, Option, Some, None, arith, ap, sym, ◌∙◌, refl, subst, length-append, append_assoc, append-nil}
 use Rattle.std.specs.List.{AllByRecursion}
 use Rattle.journal_core.specs.declared.asks.Ask.{Ask}
 use Rattle.journal_core.specs.declared.asks.Found.{Found}
@@ -9,7 +9,9 @@ use Rattle.journal_core.specs.declared.rows.ReadRow.{ReadRow}
 use Rattle.journal_core.specs.declared.rows.FillRow.{FillRow}
 use Rattle.journal_core.specs.declared.rows.Use.{Use}
 use Rattle.journal_core.specs.declared.rows.Use.TheVariants.{Unused}
+use Rattle.journal_core.specs.declared.rows.StopName.TheVariants.{GuestZero}
 use Rattle.journal_core.specs.declared.rows.StepEnd.{StepEnd}
+use Rattle.journal_core.specs.declared.rows.StepEnd.TheVariants.{Stopped}
 use Rattle.journal_core.specs.Past.{word_in}
 use Rattle.journal_core.specs.Rows.{JournalView}
 use Rattle.journal_core.specs.Standing.{AreNamed}
@@ -18,7 +20,7 @@ use Rattle.journal_core.specs.Answers.{IsAnswer, AreAnswered, use_of, uses_of}
 use Rattle.journal_core.specs.Translating.{AreTrue, OnlyAdds, GoesOn, IsWithin, Stays}
 use Rattle.walk_laws.proofs.AnswersStay.{answer_goes_on}
 use Rattle.walk_laws.proofs.TrueAgain.{true_again}
-use Rattle.form_outcomes.specs.Outcomes.{Outcome, end_of}
+use Rattle.form_outcomes.specs.Outcomes.{Outcome, Stops, end_of}
 use Rattle.interrupts.specs.PendingCauses.{pending_cause}
 use Rattle.ppc_bus.specs.Windows.{Window}
 use Rattle.thread_regs.specs.declared.registers.Thread.{Thread}
@@ -32,7 +34,7 @@ use Rattle.storage_ops.proofs.MovesLemmas.{carries_nothing}
 use Rattle.ppc_step.specs.declared.stepping.Ending.{Ending}
 use Rattle.ppc_step.specs.States.{fetch_ask, word_at}
 use Rattle.ppc_step.specs.Words.{word_outcome, word_asks}
-use Rattle.ppc_step.specs.Steps.{word_by, word_unless, data_asks, asks_unless_pending, step_asks, found_outcome, outcome_unless, step_outcome, fetched_outcome}
+use Rattle.ppc_step.specs.Steps.{is_guest_zero, word_by, word_unless, data_asks, asks_unless_ended, step_asks, found_outcome, outcome_unless, step_outcome, fetched_outcome}
 use Rattle.ppc_step.specs.Performing.{PerformsStep}
 use Rattle.ppc_step.proofs.ExecutedLemmas.{carries_same}
 
@@ -139,21 +141,21 @@ answered_then chooses number moment ram ask asks old mid new found founds is sta
 
 -- a step whose fetch gave no word
 pub performs_no_word : {P : Type 0} (chooses : Query → Found → Mark → Type 0) (related : P → DeviceRow → P → Type 0) (windows : P → List (Option Window)) (number moment : ℕ) (t : Thread) (ram : List ℕ) (port : P) (ask : Ask) (old mid : JournalView) (found : Found) (o : Outcome After) (e : Ending) (end : StepEnd) (used : Use) →
-    moment ≡ length old.rows.steps → pending_cause t ≡ None → ask ≡ fetch_ask t → OnlyAdds old mid → IsOneAnswer number moment ram old mid ask found → IsOneChoice chooses number moment ram old mid ask found →
+    moment ≡ length old.rows.steps → pending_cause t ≡ None → is_guest_zero t ≡ false → ask ≡ fetch_ask t → OnlyAdds old mid → IsOneAnswer number moment ram old mid ask found → IsOneChoice chooses number moment ram old mid ask found →
     word_by ram (found ∷ []) ≡ None → ((answer : ℕ) → o ≡ found_outcome t (windows port) ram (found ∷ []) answer) → end ≡ end_of o → behind o t ≡ registers t → used ≡ use_of found →
     e ≡ record { word = None; end = end; uses = used ∷ Unused ∷ Unused ∷ [] } →
     PerformsStep chooses related windows number (scene_of t ram port old) (scene_of t ram port mid) e
-performs_no_word chooses related windows number moment t ram port ask old mid found o e end used is none ask_is adds answer choice no_word outcome ended nothing used_is e_is =
+performs_no_word chooses related windows number moment t ram port ask old mid found o e end used is none above ask_is adds answer choice no_word outcome ended nothing used_is e_is =
     let asks : step_asks t ram (found ∷ []) ≡ ask ∷ [] =
-    ap (λ p. asks_unless_pending p t ram (found ∷ [])) none ∙ (ap (λ w. fetch_ask t ∷ data_asks t w []) no_word ∙ ap (λ (a : Ask). a ∷ []) (sym ask_is)) in
+    (ap (λ p. asks_unless_ended p (is_guest_zero t) t ram (found ∷ [])) none ∙ ap (λ z. asks_unless_ended None z t ram (found ∷ [])) above) ∙ (ap (λ w. fetch_ask t ∷ data_asks t w []) no_word ∙ ap (λ (a : Ask). a ∷ []) (sym ask_is)) in
     record {
       founds = found ∷ [];
       between = mid;
       answered = subst (λ xs. IsAnswered chooses 3 number ram xs old mid (found ∷ [])) (sym asks) (one_of_three chooses number ram (ask ∷ []) old mid (found ∷ []) (answered_once chooses number moment ram ask old mid found is adds answer choice));
       carries = carries_same related windows number (λ answer. o) (step_outcome t (windows port) ram (found ∷ [])) (scene_of t ram port mid) (scene_of t ram port mid) e.end
-          (λ answer. outcome answer ∙ sym (ap (λ p. outcome_unless p (found_outcome t (windows port) ram (found ∷ []) answer)) none))
+          (λ answer. outcome answer ∙ sym (ap (λ p. outcome_unless p (is_guest_zero t) (found_outcome t (windows port) ram (found ∷ []) answer)) none ∙ ap (λ z. outcome_unless None z (found_outcome t (windows port) ram (found ∷ []) answer)) above))
           (carries_nothing related windows number (λ answer. o) t ram port mid e.end (ap (λ (x : Ending). x.end) e_is ∙ ended) nothing);
-      word = ap (λ (x : Ending). x.word) e_is ∙ sym (ap (λ p. word_unless p ram (found ∷ [])) none ∙ no_word);
+      word = ap (λ (x : Ending). x.word) e_is ∙ sym ((ap (λ p. word_unless p (is_guest_zero t) ram (found ∷ [])) none ∙ ap (λ z. word_unless None z ram (found ∷ [])) above) ∙ no_word);
       uses = ap (λ (x : Ending). x.uses) e_is ∙ ap (λ (u : Use). u ∷ Unused ∷ Unused ∷ []) used_is;
     }
 
@@ -164,14 +166,14 @@ uses_are found (a ∷ (b ∷ more)) = refl
 
 -- a step whose word was executed
 pub performs_word : {P : Type 0} (chooses : Query → Found → Mark → Type 0) (related : P → DeviceRow → P → Type 0) (windows : P → List (Option Window)) (number moment word at : ℕ) (t : Thread) (ram : List ℕ) (port : P) (ask : Ask) (old mid : JournalView) (new : Scene P) (used : Use) (out : StorageOut) (e : Ending) →
-    moment ≡ length old.rows.steps → Stays chooses → AreNamed mid.rows.reads mid.rows.fills → pending_cause t ≡ None → ask ≡ fetch_ask t → OnlyAdds old mid → IsOneAnswer number moment ram old mid ask (Real at used) → IsOneChoice chooses number moment ram old mid ask (Real at used) →
+    moment ≡ length old.rows.steps → Stays chooses → AreNamed mid.rows.reads mid.rows.fills → pending_cause t ≡ None → is_guest_zero t ≡ false → ask ≡ fetch_ask t → OnlyAdds old mid → IsOneAnswer number moment ram old mid ask (Real at used) → IsOneChoice chooses number moment ram old mid ask (Real at used) →
     word_at ram at ≡ Some word →
     Performs chooses related windows number (reached (word_asks word t)) (λ founds answer. word_outcome word t (around (windows port) ram founds answer)) (scene_of t ram port mid) new out →
     e ≡ record { word = Some word; end = out.end; uses = used ∷ out.first ∷ out.second ∷ [] } →
     PerformsStep chooses related windows number (scene_of t ram port old) new e
-performs_word chooses related windows number moment word at t ram port ask old mid new used out e is stays named none ask_is adds answer choice word_is h e_is =
+performs_word chooses related windows number moment word at t ram port ask old mid new used out e is stays named none above ask_is adds answer choice word_is h e_is =
     let asks : step_asks t ram (Real at used ∷ h.founds) ≡ ask ∷ reached (word_asks word t) h.founds =
-    ap (λ p. asks_unless_pending p t ram (Real at used ∷ h.founds)) none ∙ (ap (λ w. fetch_ask t ∷ data_asks t w h.founds) word_is ∙ ap (λ (a : Ask). a ∷ reached (word_asks word t) h.founds) (sym ask_is)) in
+    (ap (λ p. asks_unless_ended p (is_guest_zero t) t ram (Real at used ∷ h.founds)) none ∙ ap (λ z. asks_unless_ended None z t ram (Real at used ∷ h.founds)) above) ∙ (ap (λ w. fetch_ask t ∷ data_asks t w h.founds) word_is ∙ ap (λ (a : Ask). a ∷ reached (word_asks word t) h.founds) (sym ask_is)) in
     record {
       founds = Real at used ∷ h.founds;
       between = h.between;
@@ -179,7 +181,34 @@ performs_word chooses related windows number moment word at t ram port ask old m
           (answered_then chooses number moment ram ask (reached (word_asks word t) h.founds) old mid h.between (Real at used) h.founds is stays named adds answer choice h.answered);
       carries = rw (ap (λ (x : Ending). x.end) e_is)
           (carries_same related windows number (λ answer. word_outcome word t (around (windows port) ram h.founds answer)) (step_outcome t (windows port) ram (Real at used ∷ h.founds)) (scene_of t ram port h.between) new out.end
-          (λ answer. sym (ap (λ p. outcome_unless p (found_outcome t (windows port) ram (Real at used ∷ h.founds) answer)) none ∙ ap (λ w. fetched_outcome t at w (around (windows port) ram h.founds answer)) word_is)) h.carries);
-      word = ap (λ (x : Ending). x.word) e_is ∙ sym (ap (λ p. word_unless p ram (Real at used ∷ h.founds)) none ∙ word_is);
+          (λ answer. sym ((ap (λ p. outcome_unless p (is_guest_zero t) (found_outcome t (windows port) ram (Real at used ∷ h.founds) answer)) none ∙ ap (λ z. outcome_unless None z (found_outcome t (windows port) ram (Real at used ∷ h.founds) answer)) above) ∙ ap (λ w. fetched_outcome t at w (around (windows port) ram h.founds answer)) word_is)) h.carries);
+      word = ap (λ (x : Ending). x.word) e_is ∙ sym ((ap (λ p. word_unless p (is_guest_zero t) ram (Real at used ∷ h.founds)) none ∙ ap (λ z. word_unless None z ram (Real at used ∷ h.founds)) above) ∙ word_is);
       uses = ap (λ (x : Ending). x.uses) e_is ∙ (ap (λ (u : Use). used ∷ u ∷ out.second ∷ []) h.first ∙ (ap (λ (u : Use). used ∷ first_use h.founds ∷ u ∷ []) h.second ∙ uses_are (Real at used) h.founds));
+    }
+
+-- ---- guests with partition number 0
+
+no_rows_added : (j : JournalView) → j ≡ record j { rows = record j.rows { reads = j.rows.reads ++ []; fills = j.rows.fills ++ [] } }
+no_rows_added j =
+    ap (λ xs. record j { rows = record j.rows { reads = xs; fills = j.rows.fills } }) (sym (append-nil j.rows.reads)) ∙ ap (λ xs. record j { rows = record j.rows { reads = j.rows.reads ++ []; fills = xs } }) (sym (append-nil j.rows.fills))
+
+-- a step that stops before its fetch, since its guest has partition number 0
+pub performs_guest_zero : {P : Type 0} (chooses : Query → Found → Mark → Type 0) (related : P → DeviceRow → P → Type 0) (windows : P → List (Option Window)) (number : ℕ) (t : Thread) (ram : List ℕ) (port : P) (j : JournalView) (e : Ending) →
+    pending_cause t ≡ None → is_guest_zero t ≡ true → e ≡ record { word = None; end = Stopped GuestZero 0; uses = Unused ∷ Unused ∷ Unused ∷ [] } → PerformsStep chooses related windows number (scene_of t ram port j) (scene_of t ram port j) e
+performs_guest_zero chooses related windows number t ram port j e none zero e_is =
+    let asks : step_asks t ram [] ≡ [] = ap (λ p. asks_unless_ended p (is_guest_zero t) t ram []) none ∙ ap (λ z. asks_unless_ended None z t ram []) zero in
+    record {
+      founds = [];
+      between = j;
+      answered = subst (λ xs. IsAnswered chooses 3 number ram xs j j []) (sym asks) (record {
+        adds = record { reads = []; fills = []; few_reads = omega arith; few_fills = omega arith; read_moments = tt; fill_moments = tt; rows = no_rows_added j };
+        answers = λ past stands stood. refl;
+        truth = λ past stands stood. stood;
+        chosen = λ word stands. refl;
+      });
+      carries = carries_same related windows number (λ answer. Stops GuestZero 0) (step_outcome t (windows port) ram []) (scene_of t ram port j) (scene_of t ram port j) e.end
+          (λ answer. sym (ap (λ p. outcome_unless p (is_guest_zero t) (found_outcome t (windows port) ram [] answer)) none ∙ ap (λ z. outcome_unless None z (found_outcome t (windows port) ram [] answer)) zero))
+          (carries_nothing related windows number (λ answer. Stops GuestZero 0) t ram port j e.end (ap (λ (x : Ending). x.end) e_is) refl);
+      word = ap (λ (x : Ending). x.word) e_is ∙ sym (ap (λ p. word_unless p (is_guest_zero t) ram []) none ∙ ap (λ z. word_unless None z ram []) zero);
+      uses = ap (λ (x : Ending). x.uses) e_is;
     }

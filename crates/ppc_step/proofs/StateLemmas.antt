@@ -9,6 +9,7 @@ use Rattle.journal_core.specs.declared.rows.Use.{Use}
 use Rattle.journal_core.specs.declared.rows.Use.TheVariants.{Unused, Real as RealUse, Hit, Walked, Faulted}
 use Rattle.journal_core.specs.declared.rows.ReadRow.{ReadRow}
 use Rattle.journal_core.specs.declared.rows.StopName.{StopName}
+use Rattle.journal_core.specs.declared.rows.StopName.TheVariants.{GuestZero}
 use Rattle.journal_core.specs.declared.rows.DeviceRow.{DeviceRow}
 use Rattle.journal_core.specs.declared.rows.StepEnd.{StepEnd}
 use Rattle.journal_core.specs.Steps.{StepRows}
@@ -24,7 +25,7 @@ use Rattle.storage_ops.specs.Reaching.{reached, first_use, second_use}
 use Rattle.storage_ops.specs.Effects.{After, around, behind, answer_in, windows_after}
 use Rattle.ppc_step.specs.States.{State, state_of, word_at}
 use Rattle.ppc_step.specs.Words.{word_asks, word_outcome}
-use Rattle.ppc_step.specs.Steps.{word_unless, word_by, behind_first, data_asks, asks_unless_pending, step_asks, fetched, fetched_outcome, found_outcome, outcome_unless, step_outcome, ticked_with, is_done, threads_undone, threads_after}
+use Rattle.ppc_step.specs.Steps.{is_guest_zero, word_unless, word_by, behind_first, data_asks, asks_unless_ended, step_asks, fetched, fetched_outcome, found_outcome, outcome_unless, step_outcome, ticked_with, is_done, threads_undone, threads_after}
 use Rattle.ppc_step.specs.Rule.{thread_in, all_shown, data_uses, registers_behind, behind_step, next_state}
 use Rattle.ppc_step.proofs.ShownLemmas.{Shows, shown_outcome, few_asks}
 
@@ -41,13 +42,14 @@ few_data : (t : Thread) (o : Option ℕ) (founds : List Found) → length (data_
 few_data t None founds = omega arith
 few_data t (Some word) founds = omega (arith, reached_few (word_asks word t) founds, few_asks word t)
 
-few_unless_pending : (p : Option Cause) (t : Thread) (ram : List ℕ) (founds : List Found) → length (asks_unless_pending p t ram founds) ≤ 3
-few_unless_pending (Some cause) t ram founds = omega arith
-few_unless_pending None t ram founds = omega (arith, few_data t (word_by ram founds) (behind_first founds))
+few_unless_ended : (p : Option Cause) (zero : Bool) (t : Thread) (ram : List ℕ) (founds : List Found) → length (asks_unless_ended p zero t ram founds) ≤ 3
+few_unless_ended (Some cause) zero t ram founds = omega arith
+few_unless_ended None true t ram founds = omega arith
+few_unless_ended None false t ram founds = omega (arith, few_data t (word_by ram founds) (behind_first founds))
 
 -- a step has at most three asks
 pub few_step_asks : (t : Thread) (ram : List ℕ) (founds : List Found) → length (step_asks t ram founds) ≤ 3
-few_step_asks t ram founds = few_unless_pending (pending_cause t) t ram founds
+few_step_asks t ram founds = few_unless_ended (pending_cause t) (is_guest_zero t) t ram founds
 
 -- each ask has an answer
 pub all_answered : (answers : Mark → Ask → Found → Mark → Type 0) (before after : Mark) (asks : List Ask) (founds : List Found) → AreAnswered answers before asks founds after → length founds ≡ length asks
@@ -96,23 +98,24 @@ behind_word s own t used at more a (Some word) shows few uses goes =
     shown_outcome word t s.windows s.ram more (answer_in own.devices) a shows (omega (arith, few, few_data t (Some word) more)) goes in
     ap (λ us. (behind (word_outcome word t (around s.windows s.ram (all_shown us) (answer_in own.devices))) t).thread) these ∙ ap (λ (out : Outcome After). (behind out t).thread) alike
 
-behind_found : (s : State) (own : StepRows) (t : Thread) (founds : List Found) (a : After) → AllByRecursion Shows founds → length founds ≡ length (asks_unless_pending None t s.ram founds) →
+behind_found : (s : State) (own : StepRows) (t : Thread) (founds : List Found) (a : After) → AllByRecursion Shows founds → length founds ≡ length (asks_unless_ended None false t s.ram founds) →
     own.row.uses ≡ uses_of founds → found_outcome t s.windows s.ram founds (answer_in own.devices) ≡ Goes a → registers_behind s own (word_by s.ram founds) t ≡ a.thread
 behind_found s own t [] a shows few uses goes = absurd (omega (arith, few))
 behind_found s own t (Real at used ∷ more) a shows few uses goes = behind_word s own t used at more a (word_at s.ram at) shows.1 (omega (arith, few)) uses goes
 behind_found s own t (Fault cause used ∷ founds) a shows few uses goes = absurd (takes_not cause a goes)
 behind_found s own t (Stop name value ∷ founds) a shows few uses goes = absurd (stops_not name value a goes)
 
-behind_unless : (p : Option Cause) (s : State) (own : StepRows) (t : Thread) (founds : List Found) (a : After) → AllByRecursion Shows founds → length founds ≡ length (asks_unless_pending p t s.ram founds) →
-    own.row.uses ≡ uses_of founds → outcome_unless p (found_outcome t s.windows s.ram founds (answer_in own.devices)) ≡ Goes a → registers_behind s own (word_unless p s.ram founds) t ≡ a.thread
-behind_unless (Some cause) s own t founds a shows few uses goes = absurd (takes_not cause a goes)
-behind_unless None s own t founds a shows few uses goes = behind_found s own t founds a shows few uses goes
+behind_unless : (p : Option Cause) (zero : Bool) (s : State) (own : StepRows) (t : Thread) (founds : List Found) (a : After) → AllByRecursion Shows founds → length founds ≡ length (asks_unless_ended p zero t s.ram founds) →
+    own.row.uses ≡ uses_of founds → outcome_unless p zero (found_outcome t s.windows s.ram founds (answer_in own.devices)) ≡ Goes a → registers_behind s own (word_unless p zero s.ram founds) t ≡ a.thread
+behind_unless (Some cause) zero s own t founds a shows few uses goes = absurd (takes_not cause a goes)
+behind_unless None true s own t founds a shows few uses goes = absurd (stops_not GuestZero 0 a goes)
+behind_unless None false s own t founds a shows few uses goes = behind_found s own t founds a shows few uses goes
 
 -- the registers that the row of a step shows are those that its form leaves
 pub behind_shown : (s : State) (own : StepRows) (t : Thread) (founds : List Found) (a : After) → t ≡ thread_in s own → AllByRecursion Shows founds → length founds ≡ length (step_asks t s.ram founds) →
     own.row.uses ≡ uses_of founds → own.row.word ≡ fetched t s.ram founds → step_outcome t s.windows s.ram founds (answer_in own.devices) ≡ Goes a → a.thread ≡ behind_step s own
 behind_shown s own t founds a is shows few uses word goes =
-    sym (ap (λ u. registers_behind s own own.row.word u) (sym is) ∙ (ap (λ o. registers_behind s own o t) word ∙ behind_unless (pending_cause t) s own t founds a shows few uses goes))
+    sym (ap (λ u. registers_behind s own own.row.word u) (sym is) ∙ (ap (λ o. registers_behind s own o t) word ∙ behind_unless (pending_cause t) (is_guest_zero t) s own t founds a shows few uses goes))
 
 -- ---- the state
 

@@ -138,6 +138,7 @@ pub steps_to : {P : Type 0} (chooses : Query → Found → Mark → Type 0) (rel
     IsDated old.journal.rows → AreNamed performed.between.rows.reads performed.between.rows.fills → HasRoom old.journal.reserved old.journal.rows → old.journal.reserved ≤ 1048576 →
     threads' ≡ threads_after number new.thread threads e.end performed.carries.carried.devices →
     StepsTo chooses related old.journal (record new.journal { rows = add_step new.journal.rows (row_of number old.thread e) }) old.port new.port (state_of threads old.ram (windows old.port)) (state_of threads' new.ram (windows new.port)) number e.end
+unfolding rule_is
 steps_to chooses related windows number threads threads' old new e stays performed thread inside dated named room most threads_are = record {
   own = own_of chooses related windows number old new e performed;
   number = refl;
@@ -152,6 +153,7 @@ steps_to chooses related windows number threads threads' old new e stays perform
   outcome = performed.carries.ended ∙ ap (λ (th : Thread). end_with performed.carries.carried.devices (end_of (step_outcome th (windows old.port) old.ram performed.founds (answer_in performed.carries.carried.devices)))) thread;
   kept = λ begin made ready. record {
     rule = rule_is chooses related windows number threads threads' old new e performed dated thread begin made ready inside room most;
+    answers = refl;
     state = next_is chooses related windows number threads threads' old new e performed dated thread begin made ready threads_are;
     readings = readings_are chooses related windows number threads threads' old new e performed dated thread begin made ready;
   };

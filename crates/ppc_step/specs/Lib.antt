@@ -8,3 +8,4 @@ pub mod States
 pub mod Performing
 pub mod Rule
 pub mod Soundness
+pub mod Chosen

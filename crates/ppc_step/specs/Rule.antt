@@ -124,9 +124,10 @@ pub record IsReady (begin : State) (rows : Rows) (made : List (PastStep State)) 
   pub ram : s.ram ≡ ram_after begin.ram rows.writes
   pub readings : AreTrue (past begin.ram rows.writes) rows
 
--- what a step keeps that was ready: the rule, the state after it, and the truth of all readings
-pub record IsKept (begin : State) (made : List (PastStep State)) (before after : Rows) (s s' : State) (own : StepRows) : Type 0 where
+-- what a step with these answers keeps that was ready: the rule, the state after it, and the truth of all readings
+pub record IsKept (begin : State) (made : List (PastStep State)) (before after : Rows) (s s' : State) (own : StepRows) (founds : List Found) : Type 0 where
   pub rule : KeepsRule begin before made s own
+  pub answers : rule.founds ≡ founds
   pub state : s' ≡ next_state s own
   pub readings : AreTrue (past begin.ram after.writes) after
 
@@ -145,7 +146,7 @@ pub record StepsTo {P : Type 0} (chooses : Query → Found → Mark → Type 0) 
   pub founds : List Found
   pub chosen : ChoosesUses chooses (word_in s.ram) (turn_of new.rows new.floor t own.number) (step_asks (thread_at s.threads t) s.ram founds) founds own.row.uses
   pub outcome : end ≡ end_with own.devices (end_of (step_outcome (thread_at s.threads t) s.windows s.ram founds (answer_in own.devices)))
-  pub kept : (begin : State) (made : List (PastStep State)) → IsReady begin old.rows made s → IsKept begin made old.rows new.rows s s' own
+  pub kept : (begin : State) (made : List (PastStep State)) → IsReady begin old.rows made s → IsKept begin made old.rows new.rows s s' own founds
 
 -- a journal is lawful from a state to a state: each step keeps the rule, and the last state is the one after all steps
 pub record IsLawfulRun (begin : State) (rows : Rows) (now : State) : Type 0 where

@@ -1,5 +1,5 @@
 -- What a step of a thread comes to, check by check, and what it leaves of all threads.
-use Rattle.std.specs.Prelude.{ℕ, Bool, true, false, if◌then◌else◌, List, [], ◌∷◌, slice_set, Option, Some, None}
+use Rattle.std.specs.Prelude.{ℕ, Bool, true, false, not, ◌&&◌, ◌==◌, if◌then◌else◌, List, [], ◌∷◌, slice_set, Option, Some, None}
 use Rattle.journal_core.specs.declared.asks.Ask.{Ask}
 use Rattle.journal_core.specs.declared.asks.Found.{Found}
 use Rattle.journal_core.specs.declared.asks.Found.TheVariants.{Real, Fault, Stop}
@@ -7,7 +7,8 @@ use Rattle.journal_core.specs.declared.causes.Cause.{Cause}
 use Rattle.journal_core.specs.declared.rows.DeviceRow.{DeviceRow}
 use Rattle.journal_core.specs.declared.rows.StepEnd.{StepEnd}
 use Rattle.journal_core.specs.declared.rows.StepEnd.TheVariants.{Ran, Took, Stopped}
-use Rattle.journal_core.specs.declared.rows.StopName.TheVariants.{NoStorage}
+use Rattle.journal_core.specs.declared.rows.StopName.TheVariants.{NoStorage, GuestZero}
+use Rattle.ppc_spr.specs.Msrs.{hv}
 use Rattle.form_outcomes.specs.Outcomes.{Outcome, Goes, Takes, Stops}
 use Rattle.thread_regs.specs.declared.registers.Thread.{Thread}
 use Rattle.thread_regs.specs.Registers.{thread_at}
@@ -29,14 +30,19 @@ word_by ram (Real at used ∷ founds) = word_at ram at
 word_by ram (Fault cause used ∷ founds) = None
 word_by ram (Stop name value ∷ founds) = None
 
--- a pending interrupt comes first, and then no word is fetched
-abbrev pub word_unless : Option Cause → List ℕ → List Found → Option ℕ
-word_unless (Some cause) ram founds = None
-word_unless None ram founds = word_by ram founds
+-- a guest's state with partition number 0, which stops the machine: such a guest has no tables
+abbrev pub is_guest_zero : Thread → Bool
+is_guest_zero t = not (hv t.msr) && (t.lpidr == 0)
+
+-- a pending interrupt comes first, and then a guest's state with partition number 0: with either no word is fetched
+abbrev pub word_unless : Option Cause → Bool → List ℕ → List Found → Option ℕ
+word_unless (Some cause) zero ram founds = None
+word_unless None true ram founds = None
+word_unless None false ram founds = word_by ram founds
 
 -- the word that a step of this thread fetches, where its asks have these answers
 abbrev pub fetched : Thread → List ℕ → List Found → Option ℕ
-fetched t ram founds = word_unless (pending_cause t) ram founds
+fetched t ram founds = word_unless (pending_cause t) (is_guest_zero t) ram founds
 
 -- ---- its asks
 
@@ -50,13 +56,14 @@ abbrev pub data_asks : Thread → Option ℕ → List Found → List Ask
 data_asks t None founds = []
 data_asks t (Some word) founds = reached (word_asks word t) founds
 
-abbrev pub asks_unless_pending : Option Cause → Thread → List ℕ → List Found → List Ask
-asks_unless_pending (Some cause) t ram founds = []
-asks_unless_pending None t ram founds = fetch_ask t ∷ data_asks t (word_by ram founds) (behind_first founds)
+abbrev pub asks_unless_ended : Option Cause → Bool → Thread → List ℕ → List Found → List Ask
+asks_unless_ended (Some cause) zero t ram founds = []
+asks_unless_ended None true t ram founds = []
+asks_unless_ended None false t ram founds = fetch_ask t ∷ data_asks t (word_by ram founds) (behind_first founds)
 
 -- the asks of a step of this thread that are reached, where they have these answers: the fetch, and then those for data
 abbrev pub step_asks : Thread → List ℕ → List Found → List Ask
-step_asks t ram founds = asks_unless_pending (pending_cause t) t ram founds
+step_asks t ram founds = asks_unless_ended (pending_cause t) (is_guest_zero t) t ram founds
 
 -- ---- its outcome
 
@@ -72,16 +79,17 @@ found_outcome t windows ram (Real at used ∷ founds) answer = fetched_outcome t
 found_outcome t windows ram (Fault cause used ∷ founds) answer = Takes cause
 found_outcome t windows ram (Stop name value ∷ founds) answer = Stops name value
 
-abbrev pub outcome_unless : Option Cause → Outcome After → Outcome After
-outcome_unless (Some cause) outcome = Takes cause
-outcome_unless None outcome = outcome
+abbrev pub outcome_unless : Option Cause → Bool → Outcome After → Outcome After
+outcome_unless (Some cause) zero outcome = Takes cause
+outcome_unless None true outcome = Stops GuestZero 0
+outcome_unless None false outcome = outcome
 
 -- What a step of this thread comes to, over these windows and RAM, by the answers to its asks and by the value that a device gives:
 -- what the first of these checks gives that raises an interrupt or stops the machine, and else what its form leaves. They are,
--- in this order, a pending interrupt; the translation of the fetch, and its word; the word's decoding; the form's privilege; its
+-- in this order, a pending interrupt; a guest's state with partition number 0; the translation of the fetch, and its word; the word's decoding; the form's privilege; its
 -- alignment, trap or system call; the translation of its data, page by page; and where its parts lie.
 abbrev pub step_outcome : Thread → List (Option Window) → List ℕ → List Found → ℕ → Outcome After
-step_outcome t windows ram founds answer = outcome_unless (pending_cause t) (found_outcome t windows ram founds answer)
+step_outcome t windows ram founds answer = outcome_unless (pending_cause t) (is_guest_zero t) (found_outcome t windows ram founds answer)
 
 -- ---- all threads
 

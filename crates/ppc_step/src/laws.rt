@@ -1,5 +1,6 @@
 //! Laws of steps.
 
+ghost use Rattle.ppc_step.specs.Chosen.{StepsAreConfined};
 ghost use Rattle.ppc_step.specs.Soundness as soundness;
 
 /// A reset state of one to four threads is sound.
@@ -21,4 +22,11 @@ pub fn a_run_keeps_states_sound()
 /// Of all registers a step changes those of its own thread and the clocks alone.
 pub fn a_step_keeps_other_threads()
     ensures { soundness.StepsKeepOtherThreads }
+{}
+
+/// What a guest's accesses reach in a step that keeps the rule is given by its partition's tree: each byte lies in a page of a
+/// leaf among the readings that the step's use names, which permits the access, and each entry of a process's tables that was
+/// read lies in such a page too (Power ISA, Book III, nested radix tree translation).
+pub fn a_steps_accesses_are_confined()
+    ensures { StepsAreConfined }
 {}

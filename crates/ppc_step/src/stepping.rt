@@ -72,6 +72,13 @@ fn fetch(store: &Store, at: u64) -> Option<u32>
     }
 }
 
+/// The thread is in a guest's state with partition number 0.
+fn is_guest_zero(thread: &Thread) -> bool
+    ensures { result ≡ steps.is_guest_zero thread.now }
+{
+    !thread.msr().is_hypervisor() && thread.lpidr == 0
+}
+
 /// A thread's ask for its next instruction.
 fn fetch_ask(thread: &Thread) -> Ask
     ensures { result ≡ states.fetch_ask thread.now }
@@ -114,6 +121,9 @@ fn perform<T: Translate, B: Port>(
 {
     if let Some(cause) = pending(thread) {
         return without_word(StepEnd::Took(cause), Use::Unused);
+    }
+    if is_guest_zero(thread) {
+        return without_word(StepEnd::Stopped(StopName::GuestZero, 0), Use::Unused);
     }
     let ask = fetch_ask(thread);
     let (at, used) = match tr.translate(store, journal, number, &ask, moment) {
@@ -158,7 +168,7 @@ fn finish(threads: &mut Threads, thread: u8, end: &StepEnd, asked: bool)
 }
 
 /// One step of a thread below the count, with its row, over any lawful translator and any port (Power ISA, Book I, 1.5). In this
-/// order: a pending interrupt is delivered; else the word at the next address is fetched and decoded, the form's privilege is
+/// order: a pending interrupt is delivered; a guest's state with partition number 0 stops the machine; else the word at the next address is fetched and decoded, the form's privilege is
 /// tested, its address, its trap or its system call raise their interrupt, and its effect is made; the clock ticks; and the row
 /// comes last. A stop changes no register, no byte and no device, unless a device made it: then the step is done whole.
 pub fn step<T: Translate, B: Port>(parts: &mut Parts<T, B>, thread: u8) -> Stepped

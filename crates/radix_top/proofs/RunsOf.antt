@@ -10,8 +10,9 @@ use Rattle.elf_image.specs.declared.image.Image.{Image}
 use Rattle.elf_image.specs.declared.guests.Guest.{Guest}
 use Rattle.ppc_machine.specs.States.{State}
 use Rattle.ppc_machine.specs.Rule.{IsLawfulRun}
+use Rattle.ppc_machine.specs.Chosen.{IsChosenRun}
 use Rattle.ppc_machine.specs.declared.plugging.PluggedOf.{PluggedOf}
-use Rattle.ppc_machine.specs.MachineView.{MachineView, now_of, start_of}
+use Rattle.ppc_machine.specs.MachineView.{MachineView, MachineChoice, now_of, start_of}
 use Rattle.ppc_machine.specs.Plugging.{windows_for, slots_for}
 use Rattle.ppc_machine.specs.Opening.{start, opened}
 use Rattle.ppc_machine.specs.Machines.{RunsTo}
@@ -66,6 +67,7 @@ is_run_of m words d ready machine end prepared run =
       floor = ap (λ (j : JournalView). j.floor) run.grows.rows;
       begins = begins;
       lawful = subst (λ (s : State). IsLawfulRun s machine.journal.rows (now_of machine)) begins run.lawful;
+      chosen = subst (λ (s : State). IsChosenRun MachineChoice s machine.journal.rows (now_of machine)) begins run.chosen;
       answers = answered d ready machine end run;
     } in
     let ends_so : EndsSo ready.count ready.schedule machine end = record {

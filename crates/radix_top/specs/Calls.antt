@@ -13,8 +13,9 @@ use Rattle.sched_text.specs.Plan.{Plan, turn}
 use Rattle.report_text.specs.Listing.{listing}
 use Rattle.report_text.specs.Report.{report}
 use Rattle.ppc_machine.specs.Rule.{IsLawfulRun}
+use Rattle.ppc_machine.specs.Chosen.{IsChosenRun}
 use Rattle.ppc_machine.specs.declared.plugging.PluggedOf.{PluggedOf}
-use Rattle.ppc_machine.specs.MachineView.{MachineView, now_of, start_of}
+use Rattle.ppc_machine.specs.MachineView.{MachineView, MachineChoice, now_of, start_of}
 use Rattle.ppc_machine.specs.Opening.{start}
 use Rattle.radix_top.specs.declared.command.Command.{Command}
 use Rattle.radix_top.specs.declared.command.Command.TheVariants.{Run, Asm, Dis}
@@ -36,13 +37,15 @@ pub record BenchSeen (D : Type 0) : Type 0 where
 abbrev pub leaves : {D : Type 0} → Option (MachineView D) → List (PluggedOf D) → BenchSeen D
 leaves machine devices = record { machine = machine; devices = devices }
 
--- a machine began with the image and the guests in its RAM, these devices in its slots and a journal for so many steps; each step keeps the rule;
--- and the device rows are what the devices answered
+-- A machine began with the image and the guests in its RAM, these devices in its slots and a journal for so many steps; each step
+-- keeps the rule (`lawful`), each answer of a translation is that of the fresh walk, and what it lets a guest reach is what the
+-- guest's partition gives (`chosen`); and the device rows are what the devices answered.
 pub record IsLawfulFrom {D : Type 0} (m : FilesSeen) (words : List Text) (asks : AsksFor m words) (d : DevicesSeen D) (machine : MachineView D) : Type 0 where
   pub places : machine.journal.reserved ≡ asks.count
   pub floor : machine.journal.floor ≡ 0
   pub begins : start_of machine ≡ start asks.image asks.guests ram_mib 1 (windows_in d)
   pub lawful : IsLawfulRun (start asks.image asks.guests ram_mib 1 (windows_in d)) machine.journal.rows (now_of machine)
+  pub chosen : IsChosenRun MachineChoice (start asks.image asks.guests ram_mib 1 (windows_in d)) machine.journal.rows (now_of machine)
   pub answers : DevicesAnswer d machine.journal.rows.devices
 
 -- each step of a machine is that of the thread whose turn it was, and a run of so many steps had this end, and none before

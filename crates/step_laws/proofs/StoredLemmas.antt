@@ -30,7 +30,7 @@ use Rattle.storage_ops.specs.Checks.{first_refusal, unless_refused, device_of}
 use Rattle.storage_ops.specs.Effects.{Stored, DeviceAsk, After, Around, around, split, load_after, store_after, move_after, clear_after, placed_outcome, deed_outcome, storage_outcome, behind, writes_of, AreAskedBy, AreAsked}
 use Rattle.ppc_step.specs.Effects.{thread_outcome}
 use Rattle.ppc_step.specs.States.{word_at}
-use Rattle.ppc_step.specs.Steps.{fetched_outcome, found_outcome, outcome_unless, step_outcome}
+use Rattle.ppc_step.specs.Steps.{is_guest_zero, fetched_outcome, found_outcome, outcome_unless, step_outcome}
 use Rattle.ppc_step.specs.Words.{alone, onward, access_outcome, refusal_of, form_outcome, decoded_outcome, word_outcome}
 
 -- where it goes on, at most sixteen pieces are stored
@@ -220,12 +220,13 @@ few_found t windows ram (founds_of.Real at used ∷ founds) answer = few_fetched
 few_found t windows ram (founds_of.Fault cause used ∷ founds) answer = tt
 few_found t windows ram (founds_of.Stop name value ∷ founds) answer = tt
 
-few_unless_pending : (pending : Option Cause) (outcome : Outcome After) → StoresFew outcome → StoresFew (outcome_unless pending outcome)
-few_unless_pending (Some cause) outcome few = tt
-few_unless_pending None outcome few = few
+few_unless_ended : (pending : Option Cause) (zero : Bool) (outcome : Outcome After) → StoresFew outcome → StoresFew (outcome_unless pending zero outcome)
+few_unless_ended (Some cause) zero outcome few = tt
+few_unless_ended None true outcome few = tt
+few_unless_ended None false outcome few = few
 
 few_step : (t : Thread) (windows : List (Option Window)) (ram : List ℕ) (founds : List Found) (answer : ℕ) → StoresFew (step_outcome t windows ram founds answer)
-few_step t windows ram founds answer = few_unless_pending (pending_cause t) (found_outcome t windows ram founds answer) (few_found t windows ram founds answer)
+few_step t windows ram founds answer = few_unless_ended (pending_cause t) (is_guest_zero t) (found_outcome t windows ram founds answer) (few_found t windows ram founds answer)
 
 few_behind : (outcome : Outcome After) (t : Thread) → StoresFew outcome → length (behind outcome t).stored ≤ 16
 few_behind (Goes after) t few = few

@@ -39,6 +39,7 @@ returns-in-Err g c = record {
   plugged = c.loop-thread.invariant.plugged;
   start = c.loop-thread.invariant.begin;
   lawful = c.loop-thread.invariant.kept.lawful;
+  chosen = c.loop-thread.invariant.kept.chosen;
   devices = c.loop-thread.invariant.asks;
 }
 

@@ -25,3 +25,9 @@ returns-clause-lawful g c =
     let running = sym c.last_stop.ensures ∙ c.in_default.is in
     (IsKept-step {D = g.row.D.Denot} (DeviceAnswers g.D.Device.list g.D.Device.answers) (held_of c.self.inside) (held_of (record { entry = c.self.inside.entry; measured = c.self.inside.measured; parts = c.step.new.parts })) c.args.thread c.step.result c.self.invariant running
     (record { entry = refl; plugged = refl; count = c.step.ensures.count; steps = c.step.ensures.step })).lawful
+
+pub returns-clause-chosen : goal.returns-clause-chosen
+returns-clause-chosen g c =
+    let running = sym c.last_stop.ensures ∙ c.in_default.is in
+    (IsKept-step {D = g.row.D.Denot} (DeviceAnswers g.D.Device.list g.D.Device.answers) (held_of c.self.inside) (held_of (record { entry = c.self.inside.entry; measured = c.self.inside.measured; parts = c.step.new.parts })) c.args.thread c.step.result c.self.invariant running
+    (record { entry = refl; plugged = refl; count = c.step.ensures.count; steps = c.step.ensures.step })).chosen
