@@ -21,20 +21,12 @@ pub fn permit(rights: &Rights, ask: &Ask) -> Result<(), Denial>
     if rights.scope == Scope::Process && is_set(ask.msr, 64, 49) && is_set(eaa, 64, 60) {
         return Err(Denial::Privilege);
     }
-    let refused = match ask.access {
-        AccessKind::Load => field(eaa, 64, 61, 62) == 0,
-        AccessKind::Store => !is_set(eaa, 64, 62),
-        AccessKind::Fetch => !is_set(eaa, 64, 63),
-    };
-    if refused {
-        return Err(match ask.access {
-            AccessKind::Load => Denial::Read,
-            AccessKind::Store => Denial::Write,
-            AccessKind::Fetch => Denial::Execute,
-        });
-    }
-    if ask.access == AccessKind::Fetch && rights.att == 2 {
-        return Err(Denial::Guarded);
+    match ask.access {
+        AccessKind::Load if field(eaa, 64, 61, 62) == 0 => return Err(Denial::Read),
+        AccessKind::Store if !is_set(eaa, 64, 62) => return Err(Denial::Write),
+        AccessKind::Fetch if !is_set(eaa, 64, 63) => return Err(Denial::Execute),
+        AccessKind::Fetch if rights.att == 2 => return Err(Denial::Guarded),
+        _ => {}
     }
     if !rights.r {
         return Err(Denial::Referenced);

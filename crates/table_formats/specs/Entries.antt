@@ -11,7 +11,7 @@ use Rattle.table_formats.specs.declared.roots.Root.{Root}
 abbrev pub base_of : ℕ → ℕ
 base_of w = field_of 64 w 4 55 * 2 ^ 8
 
--- how many bits of an address index it; or for how many partitions or processes there are entries
+-- how many bits of an address index it; a table of partitions or processes has 2 ^ (12 + size) bytes
 abbrev pub size_of : ℕ → ℕ
 size_of w = field_of 64 w 59 63
 
@@ -55,11 +55,11 @@ entry_of w =
 
 -- ---- the doubleword of an entry
 
--- bit i of a doubleword as a number, where it is 1
+-- what bit i of a doubleword is worth where it is 1
 abbrev pub weight : ℕ → ℕ
 weight i = 2 ^ (63 - i)
 
--- and where it is only perhaps
+-- what it is worth where it is 1 or not
 abbrev pub flag : ℕ → Bool → ℕ
 flag i false = 0
 flag i true = weight i
