@@ -1,6 +1,6 @@
 -- The readings of a lawful journal are true, step by step: each read row is one that an answer of its step added.
-use Rattle.std.proofs.Common.{◌≡◌, ℕ, zero, suc, ◌+◌, ◌-◌, ◌<◌, ◌≤◌, Bool, true, false, List, [], ◌∷◌, ◌++◌, length, take, drop, Option, Some, refl, sym, ap, ◌∙◌, subst, arith, length-append}
-use Rattle.std.specs.Prelude.{◌==◌, filter}
+use Rattle.std.proofs.Common.{◌≡◌, ℕ, zero, suc, ◌+◌, ◌-◌, ◌≤◌, Bool, true, false, List, [], ◌∷◌, ◌++◌, length, take, drop, Option, refl, sym, ap, ◌∙◌, subst, arith, length-append}
+use Rattle.std.specs.Prelude.{◌==◌}
 use Rattle.std.specs.List.{AllByRecursion}
 use Rattle.std.proofs.Math.Seq.{take-add}
 use Rattle.std.proofs.lemmas.List.{drop-drop}
@@ -16,10 +16,9 @@ use Rattle.journal_core.specs.Rows.{Rows, no_rows}
 use Rattle.journal_core.specs.Past.{past}
 use Rattle.journal_core.specs.Steps.{StepRows, InOrder, IsDated, IsOwn, rows_of_step, own_at, own_from, steps_of, with_own}
 use Rattle.journal_core.specs.Runs.{PastStep, state_after, EachKeeps}
-use Rattle.journal_core.specs.Turns.{Mark, Turn, Query, query_of, mark_of}
+use Rattle.journal_core.specs.Turns.{Mark, Turn, Query, query_of}
 use Rattle.journal_core.specs.Standing.{AreRows, fill_reads}
 use Rattle.journal_core.specs.Resumed.{numbers_in}
-use Rattle.journal_core.specs.Fills.{new_rows}
 use Rattle.journal_core.specs.Following.{IsTrueReading}
 use Rattle.journal_core.specs.Choice.{SameMark, added}
 use Rattle.journal_core.specs.Answers.{IsAnswer, AreAnswered, mark_at}
