@@ -153,7 +153,7 @@ fn counts_have_no_sign_no_leading_zero_and_a_bound(rt: HostRuntime) -> Result<()
 
 #[test]
 fn a_word_after_n_that_is_no_option_is_refused(rt: HostRuntime) -> Result<(), Fail> {
-    let options: [&str; 6] = ["--walks", "--ram", "--help", "-h", "16", "g@20000"];
+    let options: [&str; 6] = ["--walk", "--ram", "--help", "-h", "16", "g@20000"];
     for option in options {
         assert_eq!(rt;
             place(rt.alloc(), &["run", "a", "b", "3", option])?,
