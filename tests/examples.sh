@@ -43,28 +43,29 @@ done
 cmp examples/first/first.report crates/radix/stdout || { echo "examples: crates/radix/stdout is to be the report of examples/first"; exit 1; }
 
 # The sources: each is assembled and run as its page says.
-for source in asm/first asm/tables asm/hypervisor generated/generated; do
+for source in asm/first.s asm/tables.s asm/hypervisor.s generated/generated.s \
+    guest/guest.asm guest/first_load.asm guest/missing.asm guest/largest.asm; do
     page=examples/${source%/*}/README.md
-    name=${source#*/}
-    report=examples/$source.report
+    name=$(basename "${source%.*}")
+    report=examples/${source%.*}.report
     [ -e "$report" ] || report=examples/$name/$name.report
-    if ! grep -qxF "    ./radix asm examples/$source.s >$name.elf" "$page"; then
-        echo "examples: $page does not say how examples/$source.s is assembled"
+    if ! grep -qxF "    ./radix asm examples/$source >$name.elf" "$page"; then
+        echo "examples: $page does not say how examples/$source is assembled"
         exit 1
     fi
-    if ! "$program" asm "examples/$source.s" >"$folder/$name.elf"; then
-        echo "examples: examples/$source.s is not assembled: $(head -c 100 "$folder/$name.elf")"
+    if ! "$program" asm "examples/$source" >"$folder/$name.elf"; then
+        echo "examples: examples/$source is not assembled: $(head -c 100 "$folder/$name.elf")"
         exit 1
     fi
     read -r -a words < <(sed -n "s|^    ./radix run $name.elf ||p" "$page")
     "$program" run "$folder/$name.elf" "${words[@]}" >"$made" 2>/dev/null
     if ! cmp "$made" "$report"; then
-        echo "examples: the run of examples/$source.s, by $page, has another report than $report"
+        echo "examples: the run of examples/$source, by $page, has another report than $report"
         diff "$made" "$report"
         exit 1
     fi
     if ! "$program" dis "$folder/$name.elf" >>"$folder/listing"; then
-        echo "examples: the image of examples/$source.s is not listed"
+        echo "examples: the image of examples/$source is not listed"
         exit 1
     fi
     count=$((count + 1))
@@ -87,6 +88,20 @@ if command -v sha256sum >/dev/null; then
     fi
 else
     echo "examples: sha256sum is not installed, so the image of examples/generated/generated.s was not compared"
+fi
+
+# The fixture has the segments of this image and two doublewords; and the rows of walks in three reports, which came from the program too, are
+# those that a script works out from the rules alone.
+if command -v python3 >/dev/null; then
+    python3 tools/fixture.py --compare "$folder/generated.elf" "$folder/guest.elf" || exit 1
+    for name in first_load missing largest; do
+        if ! python3 tools/walk_cases.py --walks "$name" | diff - <(grep '^[rf] ' "examples/guest/$name.report"); then
+            echo "examples: the rows of walks in examples/guest/$name.report are not what tools/walk_cases.py works out"
+            exit 1
+        fi
+    done
+else
+    echo "examples: python3 is not installed, so the image of examples/guest/guest.asm and the rows of walks were not compared"
 fi
 
 echo "examples: $count runs have their reports"

@@ -3,7 +3,8 @@
 
 What they give is worked out by table_walks.py from the sentences of the machine's rules (docs/WALKS.md) and from nothing of this
 repository's code. The rows of walk_rows.py were worked out by hand, and are compared here. With `--check` it writes nothing, and fails
-where a file is not what it would write. With `--count` it prints how many walks there are, by loop.
+where a file is not what it would write. With `--count` it prints how many walks there are, by loop. With `--walks NAME`, where NAME is
+`first_load`, `missing` or `largest`, it writes the text that `--walks` adds to the report of this program of examples/guest/.
 
 A line of the first file is one of these, its numbers in hexadecimal; the second has the lines with `#` as they are, and behind them
 the outcome and the readings of each walk.
@@ -24,6 +25,7 @@ from table_walks import Ask, Memory, walk_ask, walk_partition
 from walk_asks import ask_cases
 from walk_layouts import PTCR, RIGHTS, Layout, directory, leaf, root
 from walk_rows import RAM, nested_rows, partition_rows
+from walk_texts import walks_text
 
 TOP = os.path.dirname(os.path.dirname(os.path.abspath(__file__)))
 FOLDER = os.path.join(TOP, "crates/walk_tests")
@@ -249,6 +251,9 @@ def all_cases():
 
 
 def main():
+    if sys.argv[1:2] == ["--walks"]:
+        sys.stdout.write(walks_text(sys.argv[2]))
+        return
     cases = all_cases()
     if "--count" in sys.argv[1:]:
         for loop, count in cases.counts.items():

@@ -50,6 +50,16 @@ fn granted(ask: &Ask, goal: Goal, gra: u64, at: u64, denial: Option<Denial>) -> 
     }
 }
 
+/// The partition's page was found, with these rights.
+fn found(ask: &Ask, goal: Goal, gra: u64, at: u64, rights: &Rights) -> Stage
+    requires goal { IsGoal goal }
+    requires small { at < 2 ^ 57 }
+    ensures stage { result ≡ granted ask.now goal gra at (first_denial ask.now rights.now (access_for ask.now goal)) }
+    ensures range { IsInRange result }
+{
+    granted(ask, goal, gra, at, denial_for(ask, goal, rights))
+}
+
 /// Where an ask's walk stands when a walk of the partition's tree, for a goal, stands here: where this one is over, its rights
 /// decide, and the ask's walk goes on or ends.
 #[tactic(auto, unfolding(journal_core::specs::Walk::inside))]
@@ -79,14 +89,8 @@ pub fn inside(target: &Target, goal: Goal, gra: u64, stage: PartStage) -> Stage
                 r,
                 c,
             };
-            let denial = denial_for(&target.ask, goal, &rights);
-            granted(
-                &target.ask,
-                goal,
-                gra,
-                real_address(page, bits, gra),
-                denial,
-            )
+            let at = real_address(page, bits, gra);
+            found(&target.ask, goal, gra, at, &rights)
         }
         PartStage::Ended(PartResult::Fault(kind)) => {
             partition_fault(&target.ask, kind_bits(kind) + table_bits(goal), gra)

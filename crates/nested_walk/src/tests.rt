@@ -195,6 +195,11 @@ fn a_process_tree_is_walked_in_order(rt: HostRuntime) {
     );
     let outside = Stage::Over(NestResult::Fault(Cause::InstSegment));
     assert_eq!(rt; after_process_entry(&beyond, 0x200a), outside);
+}
+
+#[test]
+fn partition_0_reads_its_tables_at_real_addresses(rt: HostRuntime) {
+    let target = fetched();
     let node = Node {
         base: 0x2000,
         size: 10,

@@ -2,7 +2,7 @@
 
 ghost use Rattle.std.specs.Prelude.{◌≡◌, ◌^◌, ◌%◌, ◌<◌, ◌≤◌, IfSome};
 ghost use Rattle.journal_core.specs.PartitionWalk.{at_node, part_start, after_entry, after_tree, part_next};
-ghost use Rattle.table_formats.specs.Fitting.{Fits, IsRoot};
+ghost use Rattle.table_formats.specs.Fitting.{Fits, IsAligned, IsRoot};
 ghost use Rattle.part_walk.specs.Entries.{partition_place, node, leaf_by, after_entry_of_tree};
 ghost use Rattle.part_walk.specs.Ranges.{IsSmallResult, IsInRange, IsInRangeOfTree};
 
@@ -89,6 +89,26 @@ fn after_entry(lpid: u16, gra: u64, value: u64) -> PartStage
     begin_tree(root)
 }
 
+/// What a leaf of these fields gives that leaves so many bits: a page of 4 KiB, 64 KiB, 2 MiB or 1 GiB.
+fn leaf(rest: u8, page: u64, r: bool, c: bool, att: u8, eaa: u8) -> PartResult
+    requires { IsAligned 12 57 page }
+    ensures value { result ≡ leaf_by rest page r c att eaa }
+    ensures small { IsSmallResult result }
+{
+    if rest == 12 || rest == 16 || rest == 21 || rest == 30 {
+        PartResult::Leaf {
+            page,
+            bits: rest,
+            att,
+            eaa,
+            r,
+            c,
+        }
+    } else {
+        PartResult::Fault(FaultKind::Unsupported)
+    }
+}
+
 /// What an entry of a tree gives that is at this level and leaves so many bits.
 fn after_tree_entry(rest: u8, level: u8, entry: Entry) -> PartStage
     requires rest { rest ≤ 52 }
@@ -106,30 +126,16 @@ fn after_tree_entry(rest: u8, level: u8, entry: Entry) -> PartStage
             c,
             att,
             eaa,
-        } => PartStage::Ended(if rest == 12 || rest == 16 || rest == 21 || rest == 30 {
-            PartResult::Leaf {
-                page,
-                bits: rest,
-                att,
-                eaa,
-                r,
-                c,
-            }
-        } else {
-            PartResult::Fault(FaultKind::Unsupported)
-        }),
-        Entry::Directory { base, size } => {
-            if level >= 4 {
-                PartStage::Ended(PartResult::Fault(FaultKind::Unsupported))
-            } else {
-                read_table(Node {
-                    base,
-                    size,
-                    left: rest,
-                    level: level + 1,
-                })
-            }
+        } => PartStage::Ended(leaf(rest, page, r, c, att, eaa)),
+        Entry::Directory { .. } if level >= 4 => {
+            PartStage::Ended(PartResult::Fault(FaultKind::Unsupported))
         }
+        Entry::Directory { base, size } => read_table(Node {
+            base,
+            size,
+            left: rest,
+            level: level + 1,
+        }),
     }
 }
 

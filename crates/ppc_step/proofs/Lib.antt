@@ -12,3 +12,4 @@ pub mod StateLemmas
 pub mod StepLemmas
 pub mod ThreadsLemmas
 pub mod ConfinedLemmas
+pub mod TruthLemmas

@@ -9,3 +9,4 @@ pub mod Performing
 pub mod Rule
 pub mod Soundness
 pub mod Chosen
+pub mod Truth

@@ -2,6 +2,7 @@
 
 ghost use Rattle.ppc_step.specs.Chosen.{StepsAreConfined};
 ghost use Rattle.ppc_step.specs.Soundness as soundness;
+ghost use Rattle.ppc_step.specs.Truth.{LawfulReadingsAreTrue};
 
 /// A reset state of one to four threads is sound.
 pub fn a_reset_state_is_sound()
@@ -29,4 +30,10 @@ pub fn a_step_keeps_other_threads()
 /// read lies in such a page too (Power ISA, Book III, nested radix tree translation).
 pub fn a_steps_accesses_are_confined()
     ensures { StepsAreConfined }
+{}
+
+/// In a lawful journal each reading is true: its word stood so at its moment. So a step over a lawful journal may rely on the readings
+/// of all steps before it.
+pub fn the_readings_of_a_lawful_run_are_true()
+    ensures { LawfulReadingsAreTrue }
 {}

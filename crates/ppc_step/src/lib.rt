@@ -13,6 +13,7 @@ mod words;
 pub use laws::{
     a_reset_state_is_sound, a_run_keeps_states_sound, a_step_keeps_other_threads,
     a_step_keeps_states_sound, a_steps_accesses_are_confined,
+    the_readings_of_a_lawful_run_are_true,
 };
 pub use stepping::{Parts, Stepped, step};
 

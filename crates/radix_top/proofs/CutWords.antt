@@ -18,8 +18,8 @@ options_trace place before w (v ∷ ws) asks = rw asks refl
 
 -- walks are asked for, whatever stands behind
 pub options_walks : (place : ℕ) (before : Options) (w : Text) (rest : List Text) → asks_for_trace before w ≡ false → asks_for_walks before w ≡ true → options_of place before (w ∷ rest) ≡ options_of (place + 1) (with_walks before) rest
-options_walks place before w [] no asks = rw (no, asks) refl
-options_walks place before w (v ∷ ws) no asks = rw (no, asks) refl
+options_walks place before w [] trace asks = rw (trace, asks) refl
+options_walks place before w (v ∷ ws) trace asks = rw (trace, asks) refl
 
 -- neither a trace nor walks nor a guest is asked for
 pub options_other : (place : ℕ) (before : Options) (w : Text) (rest : List Text) → asks_for_trace before w ≡ false → asks_for_walks before w ≡ false → announces_guest before w ≡ false → options_of place before (w ∷ rest) ≡ Err place
@@ -124,8 +124,8 @@ trace_read place before (v ∷ vs) w some is asks = ap (options_of (place + 1) (
 -- a word that asks for walks was read
 pub walks_read : (place : ℕ) (before : Options) (words : List Text) (w : Text) → 0 < length words → w ≡ get_or words 0 w → asks_for_trace before w ≡ false → asks_for_walks before w ≡ true
     → options_of (place + 1) (with_walks before) (take (length words - 1) (drop 1 words)) ≡ options_of place before words
-walks_read place before [] w some is no asks = absurd (omega arith)
-walks_read place before (v ∷ vs) w some is no asks = ap (options_of (place + 1) (with_walks before)) (take_rest (v ∷ vs) 1) ∙ sym (options_walks place before v vs (rw is at no) (rw is at asks))
+walks_read place before [] w some is trace asks = absurd (omega arith)
+walks_read place before (v ∷ vs) w some is trace asks = ap (options_of (place + 1) (with_walks before)) (take_rest (v ∷ vs) 1) ∙ sym (options_walks place before v vs (rw is at trace) (rw is at asks))
 
 -- a word that announces a guest was read, and the guest's word
 pub guest_read : (place : ℕ) (before : Options) (words rest : List Text) (w v : Text) (g : GuestWord) → 0 < length words → w ≡ get_or words 0 w → rest ≡ take (length words - 1) (drop 1 words) → 0 < length rest → v ≡ get_or rest 0 v

@@ -5,6 +5,7 @@ mod faults;
 mod files;
 mod forms;
 mod generated;
+mod guest_steps;
 mod guests;
 mod runs;
 mod support;

@@ -251,7 +251,10 @@ fn a_fault_leaves_a_front_of_the_report(rt: HostRuntime) -> Result<(), Fail> {
         end: Ended::AllRun,
     };
     let mut out = MemSink::open(rt.alloc(), 24)?;
-    assert_eq!(rt; print_report(&parts, false, false, &mut out), Err(SinkFault));
+    assert_eq!(rt;
+        print_report(&parts, false, false, &mut out),
+        Err(SinkFault)
+    );
     assert_eq!(rt; out.bytes(), b"radix 1\nend all\nsteps 0\n".as_slice());
     Ok(())
 }

@@ -26,7 +26,7 @@ some_row : (a b : ReadRow) → Some a ≡ Some b → a ≡ b
 some_row a b e = cc
 
 -- what holds of the named readings of a walk holds of its new ones
-new_hold : (P : ReadRow → Type 0) (reads : List ReadRow) (from : ℕ) (is : List ℕ) (items : List TrailItem) (rs : List ReadRow) → AreItems reads from is items → AreRows reads is rs → AllByRecursion P rs → AllByRecursion P (new_rows items)
+pub new_hold : (P : ReadRow → Type 0) (reads : List ReadRow) (from : ℕ) (is : List ℕ) (items : List TrailItem) (rs : List ReadRow) → AreItems reads from is items → AreRows reads is rs → AllByRecursion P rs → AllByRecursion P (new_rows items)
 new_hold P reads from [] [] rs items_are named all = tt
 new_hold P reads from [] (item ∷ items) rs items_are named all = absurd items_are
 new_hold P reads from (i ∷ is) [] rs items_are named all = absurd items_are
@@ -53,11 +53,11 @@ none_more : {X : Type 0} (xs more : List X) → length (xs ++ more) ≡ length x
 none_more xs [] e = refl
 none_more xs (x ∷ more) e = (let l : length (xs ++ x ∷ more) ≡ length xs + length (x ∷ more) = length-append xs (x ∷ more) in absurd (omega (arith, l, e)))
 
-true_joined : (past : ℕ → ℕ → Option ℕ) (xs ys : List ReadRow) → AllByRecursion (IsTrueReading past) xs → AllByRecursion (IsTrueReading past) ys → AllByRecursion (IsTrueReading past) (xs ++ ys)
+pub true_joined : (past : ℕ → ℕ → Option ℕ) (xs ys : List ReadRow) → AllByRecursion (IsTrueReading past) xs → AllByRecursion (IsTrueReading past) ys → AllByRecursion (IsTrueReading past) (xs ++ ys)
 true_joined past [] ys a b = b
 true_joined past (x ∷ xs) ys a b = (a.0, true_joined past xs ys a.1 b)
 
-only_true : (past : ℕ → ℕ → Option ℕ) (n : ℕ) (rs : List ReadRow) → AllByRecursion (IsReadBy past n) rs → AllByRecursion (IsTrueReading past) rs
+pub only_true : (past : ℕ → ℕ → Option ℕ) (n : ℕ) (rs : List ReadRow) → AllByRecursion (IsReadBy past n) rs → AllByRecursion (IsTrueReading past) rs
 only_true past n [] all = tt
 only_true past n (r ∷ rs) all = (all.0.1, only_true past n rs all.1)
 

@@ -1,5 +1,5 @@
 /* What each program of this folder shows its results with. For this machine a byte is shown by a store to the console; for another system,
-   by its library. A program is a function show_all, which start.s of the folder above calls. */
+   by its library. A program ends with PROGRAM { .. }, which is its main function. */
 
 #ifndef SHOW_H
 #define SHOW_H
@@ -22,7 +22,7 @@ static void show_byte(u8 byte)
     *(volatile u8 *)0x10000000 = byte;
 }
 
-/* start.s calls this in place of show_all; the store behind it stops the machine. */
+/* Begins the main function of a program. start.s calls show_all, whose store behind the program stops the machine. */
 #define PROGRAM                           \
     void show_program(void);              \
     void show_all(void)                   \

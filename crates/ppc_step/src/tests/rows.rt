@@ -27,7 +27,7 @@ fn a_fetch_without_a_word_stops_and_shows_what_answered_it(rt: HostRuntime) -> R
             0x1000_0000,
             Use::Real(0x1000_0000),
         ),
-        // with relocation, and in a guest: the first doubleword of partition 0's entry is 0
+        // with relocation: the first doubleword of partition 0's entry is 0
         (
             0x9000_0000_0000_1021,
             HERE,
@@ -35,10 +35,11 @@ fn a_fetch_without_a_word_stops_and_shows_what_answered_it(rt: HostRuntime) -> R
             0,
             Use::Unused,
         ),
+        // in a guest, whose partition is 0
         (
             0x8000_0000_0000_1001,
             HERE,
-            StopName::HashedPartition,
+            StopName::GuestZero,
             0,
             Use::Unused,
         ),

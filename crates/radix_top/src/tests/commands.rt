@@ -36,8 +36,14 @@ fn a_run_has_its_count_and_its_options(rt: HostRuntime) -> Result<(), Fail> {
         (&["run", "a", "b", "1048576"], (1_048_576, false, false, 0)),
         (&["run", "a", "b", "0", "--trace"], (0, true, false, 0)),
         (&["run", "a", "b", "0", "--walks"], (0, false, true, 0)),
-        (&["run", "a", "b", "3", "--trace", "--walks"], (3, true, true, 0)),
-        (&["run", "a", "b", "3", "--guest", "g@20000"], (3, false, false, 1)),
+        (
+            &["run", "a", "b", "3", "--trace", "--walks"],
+            (3, true, true, 0),
+        ),
+        (
+            &["run", "a", "b", "3", "--guest", "g@20000"],
+            (3, false, false, 1),
+        ),
         (
             &[
                 "run", "a", "b", "3", "--guest", "g@0", "--trace", "--guest", "g@1",
@@ -45,9 +51,7 @@ fn a_run_has_its_count_and_its_options(rt: HostRuntime) -> Result<(), Fail> {
             (3, true, false, 2),
         ),
         (
-            &[
-                "run", "a", "b", "3", "--walks", "--guest", "g@0", "--trace",
-            ],
+            &["run", "a", "b", "3", "--walks", "--guest", "g@0", "--trace"],
             (3, true, true, 1),
         ),
         (
@@ -149,7 +153,7 @@ fn counts_have_no_sign_no_leading_zero_and_a_bound(rt: HostRuntime) -> Result<()
 
 #[test]
 fn a_word_after_n_that_is_no_option_is_refused(rt: HostRuntime) -> Result<(), Fail> {
-    let options: [&str; 6] = ["--walks", "--ram", "--help", "-h", "16", "g@20000"];
+    let options: [&str; 6] = ["--walk", "--ram", "--help", "-h", "16", "g@20000"];
     for option in options {
         assert_eq!(rt;
             place(rt.alloc(), &["run", "a", "b", "3", option])?,

@@ -22,7 +22,7 @@ const SEGMENTS: [(u64, u64, u64); 7] = [
 ];
 
 /// The file of the image for seed 1 and size 1.
-fn fixture(rt: &(impl Abort + AllocGlobal)) -> Result<Vec<u8>, Fail> {
+pub fn fixture(rt: &(impl Abort + AllocGlobal)) -> Result<Vec<u8>, Fail> {
     let image = generate(rt.alloc(), 1, 1).expect(rt, "the size is from 1 to 64");
     let file = write_elf(rt.alloc(), &image).expect(rt, "the image has seven segments");
     Ok(Vec::from_slice(rt.alloc(), file.as_slice())?)
@@ -55,12 +55,12 @@ fn change(file: &mut Vec<u8>, at: u64, bytes: &[u8]) -> bool {
 }
 
 /// Changes the word at a real address of the fixture.
-fn change_word(file: &mut Vec<u8>, at: u64, word: u32) -> bool {
+pub fn change_word(file: &mut Vec<u8>, at: u64, word: u32) -> bool {
     change(file, at, &word.to_le_bytes())
 }
 
 /// Changes the big-endian doubleword at a real address of the fixture, an entry of a table.
-fn change_entry(file: &mut Vec<u8>, at: u64, entry: u64) -> bool {
+pub fn change_entry(file: &mut Vec<u8>, at: u64, entry: u64) -> bool {
     change(file, at, &entry.to_be_bytes())
 }
 

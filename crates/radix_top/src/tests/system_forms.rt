@@ -93,8 +93,8 @@ fn return_to(low_half: u32) -> [u32; 5]
 #[test]
 fn a_return_to_a_guest_stops_at_its_first_fetch(rt: HostRuntime) -> Result<(), Fail> {
     let alloc = rt.alloc();
-    // The guest's partition is 0, whose entry is 0.
-    let stop = (StopName::HashedPartition, 0);
+    // The guest's partition is 0.
+    let stop = (StopName::GuestZero, 0);
     stops(&rt, alloc, &return_to(0x1033), stop, 6)?;
     stops(&rt, alloc, &return_to(0xd033), stop, 6)
 }
