@@ -80,6 +80,7 @@ run_view m words d machine end run =
       floor = run.lawful.floor;
       begins = rw (same_windows d d.devices) (same_start d machine ∙ run.lawful.begins);
       lawful = rw (same_windows d d.devices, same_now d machine.slots) run.lawful.lawful;
+      chosen = rw (same_windows d d.devices, same_now d machine.slots) run.lawful.chosen;
       answers = λ slot. same_answers d d.devices slot (rows_of slot machine.journal.rows.devices) (run.lawful.answers slot);
     } in
     record { asks = run.asks; lawful = lawful; ends = record { turns = run.ends.turns; ended = run.ends.ended; exact = run.ends.exact } }
