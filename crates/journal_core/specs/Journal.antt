@@ -1,5 +1,5 @@
 -- What a journal keeps beside its rows. No public contract cites these definitions.
-use Rattle.std.specs.Prelude.{◌≤◌, vec_capacity, vec_len}
+use Rattle.std.specs.Prelude.{◌≤◌, length, vec_capacity, vec_len}
 use Rattle.journal_core.specs.declared.journal.Journal.TheInside.{Inside}
 use Rattle.journal_core.specs.Rows.{JournalView}
 use Rattle.journal_core.specs.Steps.{IsDatedSoFar}
@@ -10,7 +10,8 @@ use Rattle.journal_core.specs.Room.{most_steps, read_places, fill_places, write_
 abbrev pub shown_of : Inside → JournalView
 shown_of j = record { reserved = j.reserved; floor = j.floor; rows = record { reads = j.reads.items; fills = j.fills.items; writes = j.writes.items; dones = j.dones.items; devices = j.devices.items; steps = j.steps.items } }
 
--- the memory of each list is taken, its rows are in order, and each fill has at most 36 readings, whose numbers name read rows
+-- the memory of each list is taken, its rows are in order, each fill has at most 36 readings, whose numbers name read rows, and the
+-- floor is no more than the number of fills
 pub record IsReserved (j : Inside) : Type 0 where
   pub most : j.reserved ≤ most_steps
   pub steps : j.reserved ≤ vec_capacity j.steps
@@ -28,3 +29,4 @@ pub record IsReserved (j : Inside) : Type 0 where
   pub dated : IsDatedSoFar (shown_of j).rows
   pub short : AreShort j.fills.items
   pub named : AreNamed j.reads.items j.fills.items
+  pub within : j.floor ≤ length j.fills.items

@@ -74,9 +74,6 @@ pub trait Translate {
 
     /// What it chose stays its choice when the journal goes on.
     ghost chosen_stays: { Stays chooses };
-
-    /// It fits with any values where it fits with some. This law goes when operations are completed.
-    ghost any_values: { (s : Self) (j : JournalView) (values new : List ℕ) → length new ≡ length values → fits s j values → fits s j new };
 }
 
 /// What keeps walks, and gives them by the numbers of their fills.

@@ -5,6 +5,7 @@ ghost use Rattle.journal_core.specs.declared.rows.StepEnd.TheVariants.{Ran};
 ghost use Rattle.journal_core.specs.declared.rows.Use.TheVariants.{Unused};
 ghost use Rattle.ppc_step.specs.States as states;
 ghost use Rattle.journal_core.specs.Room.{HasRoom, walk_reads, walk_fills, read_places, fill_places, write_places, device_places};
+ghost use Rattle.journal_core.specs.Rows.{JournalView};
 ghost use Rattle.journal_core.specs.Steps.{IsDated};
 ghost use Rattle.journal_core.specs.Translating.{IsQuiet};
 ghost use Rattle.thread_regs.specs.Registers.{thread_at};
@@ -171,6 +172,7 @@ fn finish(threads: &mut Threads, thread: u8, end: &StepEnd, asked: bool)
 /// order: a pending interrupt is delivered; a guest's state with partition number 0 stops the machine; else the word at the next address is fetched and decoded, the form's privilege is
 /// tested, its address, its trap or its system call raise their interrupt, and its effect is made; the clock ticks; and the row
 /// comes last. A stop changes no register, no byte and no device, unless a device made it: then the step is done whole.
+/// Until operations are completed, its translator fits with any values where it fits with some (`any_values`).
 pub fn step<T: Translate, B: Port>(parts: &mut Parts<T, B>, thread: u8) -> Stepped
     requires thread { thread < length parts.old.threads }
     requires most { parts.old.journal.reserved ≤ 1048576 }
@@ -178,6 +180,7 @@ pub fn step<T: Translate, B: Port>(parts: &mut Parts<T, B>, thread: u8) -> Stepp
     requires dated { IsDated parts.old.journal.rows }
     requires for_all { (t : ℕ) → t < length parts.old.threads → T.has_thread parts.old.translator t }
     requires fits { T.fits parts.old.translator parts.old.journal (ptcrs_of parts.old.threads) }
+    requires any_values { (s : T) (j : JournalView) (values new : List ℕ) → length new ≡ length values → T.fits s j values → T.fits s j new }
     ensures step { StepsTo T.chooses B.related parts.old.journal parts.new.journal parts.old.bus parts.new.bus (state_of parts.old.threads parts.old.store.ram (B.windows parts.old.bus)) (state_of parts.new.threads parts.new.store.ram (B.windows parts.new.bus)) thread result }
     ensures count { length parts.new.threads ≡ length parts.old.threads }
     ensures fits { T.fits parts.new.translator parts.new.journal (ptcrs_of parts.new.threads) }

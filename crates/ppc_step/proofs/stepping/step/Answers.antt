@@ -63,6 +63,6 @@ returns-clause-fits g c =
       floor = ap (λ (j : JournalView). j.floor) c.push_step.ensures.row;
       steps = (let e : length c.push_step.new.self.rows.steps ≡ length c.perform-ending.new.journal.rows.steps + 1 = ap (λ (j : JournalView). length j.rows.steps) c.push_step.ensures.row ∙ (length-append c.perform-ending.new.journal.rows.steps _) in omega (arith, e));
     } in
-    g.met.T.Translate.any_values c.perform-ending.new.tr c.push_step.new.self (ptcrs_of c.args.parts.now.threads) (ptcrs_of c.finish.new.threads) (ptcrs_length c.args.parts.now.threads c.finish.new.threads count)
+    c.requires.any_values c.perform-ending.new.tr c.push_step.new.self (ptcrs_of c.args.parts.now.threads) (ptcrs_of c.finish.new.threads) (ptcrs_length c.args.parts.now.threads c.finish.new.threads count)
     (g.met.T.Translate.stays c.perform-ending.new.tr c.perform-ending.new.journal c.push_step.new.self (ptcrs_of c.args.parts.now.threads) same
     (c.perform-ending.ensures.fits (ptcrs_of c.args.parts.now.threads) (ptcr_at c.args.parts.now.threads c.args.thread c.requires.thread ∙ ap (λ (t : Thread). Some t.ptcr) (sym c.get_mut.ensures.value)) c.requires.fits))

@@ -31,5 +31,6 @@ invariant_of-self c =
         devices = rw items (in_order_push (λ (r : DeviceRow). r.step) 0 (length c.self.inside.steps.items) c.self.inside.devices.items c.args.row here (omega arith) kept.dated.devices);
       };
       short = kept.short;
+      within = kept.within;
       named = kept.named;
     }

@@ -1,4 +1,4 @@
-use Rattle.std.proofs.Common.{◌≡◌, ℕ, ◌<◌, ◌++◌, ◌∷◌, [], length, arith, subst}
+use Rattle.std.proofs.Common.{◌≡◌, ℕ, ◌<◌, ◌++◌, ◌∷◌, [], length, length-append, ap, arith, subst}
 use Rattle.std.proofs.lemmas.Grind.{common_steps}
 use Rattle.std.specs.Prelude.{slice_index}
 use Rattle.journal_core.specs.declared.rows.FillRow.{FillRow}
@@ -33,6 +33,7 @@ invariant_of-self c =
         dones = kept.dated.dones;
         devices = kept.dated.devices;
       };
+      within = omega (arith, kept.within, ap length items, length-append c.self.inside.fills.items (c.args.row ∷ []));
       short = rw items (short_with c.self.inside.fills.items c.args.row kept.short c.requires.count);
       named = rw items (named_with c.self.inside.reads.items c.self.inside.fills.items c.args.row (length c.self.inside.steps.items) here kept.dated.reads kept.named (subst (λ xs. (k : ℕ) → k < c.args.row.count → slice_index c.args.row.reads k < length xs) reads c.requires.reads));
     }

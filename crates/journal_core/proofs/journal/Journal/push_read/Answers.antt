@@ -32,5 +32,6 @@ invariant_of-self c =
         devices = kept.dated.devices;
       };
       short = kept.short;
+      within = kept.within;
       named = rw items (named_by_more c.self.inside.reads.items (c.args.row ∷ []) c.self.inside.fills.items kept.named);
     }

@@ -34,5 +34,6 @@ invariant_of-self c =
         devices = in_order_higher (λ (r : DeviceRow). r.step) 0 (length c.self.inside.steps.items + 1) (length c.push.new.self.items + 1) c.self.inside.devices.items (omega arith) kept.dated.devices;
       };
       short = kept.short;
+      within = kept.within;
       named = kept.named;
     }

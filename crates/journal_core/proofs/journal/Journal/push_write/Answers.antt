@@ -31,5 +31,6 @@ invariant_of-self c =
         devices = kept.dated.devices;
       };
       short = kept.short;
+      within = kept.within;
       named = kept.named;
     }

@@ -89,3 +89,7 @@ loop-thread-preserved g c =
       begin = start_of-step related old new t c.step.result c.loop-thread.invariant.kept on.running steps ∙ c.loop-thread.invariant.begin;
       asks = Asks-step related c.args.self.now old new t c.step.result c.loop-thread.invariant.asks steps;
     }
+
+-- the translator fits with any values
+pub step-requires-clause-any_values : goal.step-requires-clause-any_values
+step-requires-clause-any_values g c = λ s j values new same fits. tt

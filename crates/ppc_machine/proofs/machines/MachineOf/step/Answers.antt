@@ -31,3 +31,7 @@ returns-clause-chosen g c =
     let running = sym c.last_stop.ensures ∙ c.in_default.is in
     (IsKept-step {D = g.row.D.Denot} (DeviceAnswers g.D.Device.list g.D.Device.answers) (held_of c.self.inside) (held_of (record { entry = c.self.inside.entry; measured = c.self.inside.measured; parts = c.step.new.parts })) c.args.thread c.step.result c.self.invariant running
     (record { entry = refl; plugged = refl; count = c.step.ensures.count; steps = c.step.ensures.step })).chosen
+
+-- the translator fits with any values
+pub step-requires-clause-any_values : goal.step-requires-clause-any_values
+step-requires-clause-any_values g c = λ s j values new same fits. tt
