@@ -9,7 +9,7 @@ top=$(cd "$(dirname "${BASH_SOURCE[0]}")/.." && pwd)
 folder=$(mktemp -d)
 trap 'rm -rf "$folder"' EXIT
 
-below=(ppc_bits ppc_spr table_formats journal_core walk_laws protect part_walk nested_walk real_store walk_rows translator)
+below=(ppc_bits ppc_spr ppc_ops table_formats journal_core tlbie_ops walk_laws protect part_walk nested_walk real_store walk_rows translator)
 mkdir -p "$folder"/crates/walk_bench/{src,proofs/translate,proofs/translate_all}
 for crate in "${below[@]}"; do
     mkdir "$folder/crates/$crate"
