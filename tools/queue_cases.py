@@ -9,7 +9,8 @@ With `--check` it writes nothing, and fails where the file is not what it would 
 """
 
 import os
-import sys
+
+from case_files import write_or_check
 
 TOP = os.path.dirname(os.path.dirname(os.path.abspath(__file__)))
 CASES = os.path.join(TOP, "crates/inval_queue/src/tests/cases.rt")
@@ -91,15 +92,7 @@ def examples():
 
 def main():
     examples()
-    text = cases()
-    if "--check" in sys.argv[1:]:
-        with open(CASES, encoding="utf-8") as file:
-            if file.read() != text:
-                sys.exit(f"{CASES} is not what {sys.argv[0]} writes")
-        return
-    os.makedirs(os.path.dirname(CASES), exist_ok=True)
-    with open(CASES, "w", encoding="utf-8") as file:
-        file.write(text)
+    write_or_check(CASES, cases())
 
 
 if __name__ == "__main__":
